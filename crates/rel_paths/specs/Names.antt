@@ -1,0 +1,90 @@
+use Rattle.std.specs.Prelude.{◌≡◌, ◌≤◌, ℕ, ◌+◌, ◌==◌, Bool, true, false, not, ◌&&◌, ◌||◌, nat_lt, nat_le, if◌then◌else◌, List, [], ◌∷◌, ◌++◌, length, position, IsTrue, codes}
+use Rattle.std.specs.List.{slice_split, list_all, list_any, join_with_byte}
+use Rattle.std.specs.Str.{bytes_eq}
+use Rattle.std.specs.declared.option.Option.{Option}
+use Rattle.std.specs.declared.option.Option.TheVariants.{None, Some}
+use Rattle.rel_paths.specs.declared.error.PathError.{PathError}
+use Rattle.rel_paths.specs.declared.error.PathError.TheVariants.{Empty, Long, Deep, BadName, Memory}
+
+-- the names of a path's text, which stand between its slashes
+abbrev pub names_of : List ℕ → List (List ℕ)
+names_of = slice_split (λ b. b == 47)
+
+-- the text of a path's names
+abbrev pub text_of : List (List ℕ) → List ℕ
+text_of = join_with_byte 47
+
+-- no control byte, no slash, no backslash, not byte 127
+abbrev pub is_good_byte : ℕ → Bool
+is_good_byte b = nat_le 32 b && not (b == 47) && not (b == 92) && not (b == 127)
+
+-- a good name, of what is UTF-8 text already
+abbrev pub is_good_name : List ℕ → Bool
+is_good_name n = not (length n == 0) && not (bytes_eq n (46 ∷ [])) && not (bytes_eq n (46 ∷ 46 ∷ [])) && list_all is_good_byte n
+
+-- a good name of at most so many bytes
+abbrev pub is_name_within : ℕ → List ℕ → Bool
+is_name_within most n = is_good_name n && nat_le (length n) most
+
+-- how many bytes and names a path's text may have, and how many bytes each of its names
+pub record Limits : Type 0 where
+  pub bytes : ℕ
+  pub names : ℕ
+  pub name_bytes : ℕ
+
+abbrev pub user_limits : Limits
+user_limits = record { bytes = 1024; names = 64; name_bytes = 240 }
+
+abbrev pub held_limits : Limits
+held_limits = record { bytes = 1400; names = 72; name_bytes = 254 }
+
+abbrev pub bad_name_fault : Option ℕ → Option PathError
+bad_name_fault None = None
+bad_name_fault (Some k) = Some (BadName k)
+
+-- the first fault of a text as a path within the limits
+unfoldable pub path_fault : Limits → List ℕ → Option PathError
+path_fault most text =
+    if length text == 0 then Some Empty
+    else if nat_lt most.bytes (length text) then Some Long
+    else if nat_lt most.names (length (names_of text)) then Some Deep
+    else bad_name_fault (position (λ n. not (is_name_within most.name_bytes n)) (names_of text))
+
+abbrev pub IsUserPath : List ℕ → Type 0
+IsUserPath text = path_fault user_limits text ≡ None
+
+abbrev pub IsHeldPath : List ℕ → Type 0
+IsHeldPath text = path_fault held_limits text ≡ None
+
+-- the first fault of a text as a mod's id
+unfoldable pub id_fault : List ℕ → Option PathError
+id_fault text = if length text == 0 then Some Empty else if is_name_within 240 text then None else Some (BadName 0)
+
+abbrev pub IsModId : List ℕ → Type 0
+IsModId text = id_fault text ≡ None
+
+-- want of memory, or the first fault
+abbrev pub Explains : PathError → Option PathError → Type 0
+Explains Memory fault = Unit {0}
+Explains e fault = fault ≡ Some e
+
+-- the ending of a backup's name, `.vortex_backup`
+abbrev pub backup_ending : List ℕ
+backup_ending = codes ".vortex_backup"
+
+-- the manifest's name, `vortex.deployment.json`
+abbrev pub manifest_name : List ℕ
+manifest_name = codes "vortex.deployment.json"
+
+-- whether the list ends so
+abbrev pub ends_with : List ℕ → List ℕ → Bool
+ends_with ending [] = bytes_eq [] ending
+ends_with ending (x ∷ xs) = bytes_eq (x ∷ xs) ending || ends_with ending xs
+
+abbrev pub begins_with_manifest : List (List ℕ) → Bool
+begins_with_manifest [] = false
+begins_with_manifest (n ∷ ns) = bytes_eq n manifest_name
+
+-- whether these names are a reserved path
+unfoldable pub is_reserved : List (List ℕ) → Bool
+is_reserved names = list_any (ends_with backup_ending) names || begins_with_manifest names

@@ -1,0 +1,22 @@
+// Why a text is no path, id or name.
+use thiserror::Error;
+
+/// Why a text was refused. Of several faults the first in this order is told.
+#[derive(Clone, Copy, Debug, PartialEq, Eq, Error)]
+pub enum PathError {
+    /// The text has no bytes.
+    #[error("the text is empty")]
+    Empty,
+    /// The text has more bytes than its kind may have.
+    #[error("the text is too long")]
+    Long,
+    /// The path has more names than its kind may have.
+    #[error("the path has too many names")]
+    Deep,
+    /// The first bad name, counted from 0: no good name, or one with too many bytes.
+    #[error("name {0} is bad")]
+    BadName(u32),
+    /// Memory ran out.
+    #[error("out of memory")]
+    Memory,
+}

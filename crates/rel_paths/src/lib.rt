@@ -1,0 +1,14 @@
+//! Paths below a root and mods' ids: the texts that are taken, the faults of those that aren't,
+//! the backup of a path, the places that the program keeps for itself, and the order of all of
+//! these, which is that of the bytes of their texts.
+#![tactic(auto)]
+
+mod control;
+mod error;
+mod mod_id;
+mod path;
+
+pub use control::Control;
+pub use error::PathError;
+pub use mod_id::ModId;
+pub use path::RelPath;
