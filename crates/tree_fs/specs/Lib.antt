@@ -1,0 +1,6 @@
+pub mod EntryName
+pub mod Spot
+pub mod Disk
+pub mod Story
+pub mod Calls
+pub mod Listing
