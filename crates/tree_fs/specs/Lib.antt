@@ -4,3 +4,4 @@ pub mod Disk
 pub mod Story
 pub mod Calls
 pub mod Listing
+pub mod Texts

@@ -1,0 +1,86 @@
+// The program's own input and output.
+ghost use Rattle.std.specs.Prelude.{◌≡◌, []};
+
+use crate::error::count_fault;
+use crate::{IoError, Sink, Source};
+use fault_count::FaultCount;
+use std::io::Read;
+
+// The most bytes of one read.
+const PIECE: u32 = 65_536;
+
+/// Standard input, or what a runtime has in its place. It tells nothing of its bytes.
+#[derive(Drop)]
+pub struct StdSource<R> {
+    rt: R,
+    faults: FaultCount,
+}
+
+impl<R: Input + AllocGlobal> StdSource<R> {
+    /// A source over the runtime's input.
+    pub fn new(rt: R) -> StdSource<R>
+        ensures { result.faults ≡ 0 }
+    {
+        StdSource {
+            rt,
+            faults: FaultCount::new(),
+        }
+    }
+}
+
+impl<R: Input + AllocGlobal> Source for StdSource<R> {
+    ghost tells = { ⊥ };
+
+    ghost left = { λ _. [] };
+
+    ghost faults = { λ s. s.faults };
+
+    fn pull(&mut self, most: u32) -> Result<Vec<u8>, IoError> {
+        let mut piece = vec![in self.rt.alloc(); 0; most.min(PIECE) as usize]?;
+        match self.rt.reader().read(&mut piece) {
+            Ok(n) => {
+                piece.truncate(n);
+                Ok(piece)
+            }
+            Err(_) => Err(count_fault(&mut self.faults)),
+        }
+    }
+}
+
+/// Standard output, or what a runtime has in its place. Each push is one write, and nothing is
+/// kept back. It tells nothing of its bytes.
+#[derive(Drop)]
+pub struct StdSink<R> {
+    rt: R,
+    faults: FaultCount,
+}
+
+impl<R: Print> StdSink<R> {
+    /// A sink over the runtime's output.
+    pub fn new(rt: R) -> StdSink<R>
+        ensures { result.faults ≡ 0 }
+    {
+        StdSink {
+            rt,
+            faults: FaultCount::new(),
+        }
+    }
+}
+
+impl<R: Print> Sink for StdSink<R> {
+    ghost tells = { ⊥ };
+
+    ghost written = { λ _. [] };
+
+    ghost faults = { λ s. s.faults };
+
+    fn push(&mut self, piece: &[u8]) -> Result<usize, IoError> {
+        if piece.is_empty() {
+            return Ok(0);
+        }
+        match self.rt.write_some(piece) {
+            Ok(n) if n > 0 => Ok(n),
+            _ => Err(count_fault(&mut self.faults)),
+        }
+    }
+}
