@@ -1,8 +1,9 @@
-use Rattle.std.specs.Prelude.{◌≡◌, ℕ, ◌==◌, Bool, false, not, ◌&&◌, ◌||◌, nat_lt, nat_le, if◌then◌else◌, List, [], ◌∷◌, length, position, codes}
-use Rattle.std.specs.List.{slice_split, list_all, list_any, join_with_byte}
+use Rattle.std.specs.Prelude.{◌≡◌, ℕ, ◌==◌, Bool, false, not, ◌&&◌, ◌||◌, nat_lt, nat_le, nat_eq, if◌then◌else◌, List, [], ◌∷◌, length, position, codes}
+use Rattle.std.specs.List.{slice_split, list_all, list_any, join_with_byte, ends_with}
 use Rattle.std.specs.Str.{bytes_eq}
 use Rattle.std.specs.declared.option.Option.{Option}
 use Rattle.std.specs.declared.option.Option.TheVariants.{None, Some}
+use Rattle.rel_paths.specs.declared.names.Limits.{Limits}
 use Rattle.rel_paths.specs.declared.error.PathError.{PathError}
 use Rattle.rel_paths.specs.declared.error.PathError.TheVariants.{Empty, Long, Deep, BadName, Memory}
 
@@ -26,12 +27,7 @@ is_good_name n = not (length n == 0) && not (bytes_eq n (46 ∷ [])) && not (byt
 abbrev pub is_name_within : ℕ → List ℕ → Bool
 is_name_within most n = is_good_name n && nat_le (length n) most
 
--- how many bytes and names a path's text may have, and how many bytes each of its names
-pub record Limits : Type 0 where
-  pub bytes : ℕ
-  pub names : ℕ
-  pub name_bytes : ℕ
-
+-- the limits of a user path, and those of a held path
 abbrev pub user_limits : Limits
 user_limits = record { bytes = 1024; names = 64; name_bytes = 240 }
 
@@ -76,10 +72,9 @@ backup_ending = codes ".vortex_backup"
 abbrev pub manifest_name : List ℕ
 manifest_name = codes "vortex.deployment.json"
 
--- whether the list ends so
-abbrev pub ends_with : List ℕ → List ℕ → Bool
-ends_with ending [] = bytes_eq [] ending
-ends_with ending (x ∷ xs) = bytes_eq (x ∷ xs) ending || ends_with ending xs
+-- whether some name is that of a backup
+abbrev pub has_backup : List (List ℕ) → Bool
+has_backup = list_any (λ n. ends_with nat_eq n backup_ending)
 
 abbrev pub begins_with_manifest : List (List ℕ) → Bool
 begins_with_manifest [] = false
@@ -87,4 +82,4 @@ begins_with_manifest (n ∷ ns) = bytes_eq n manifest_name
 
 -- whether these names are a reserved path
 unfoldable pub is_reserved : List (List ℕ) → Bool
-is_reserved names = list_any (ends_with backup_ending) names || begins_with_manifest names
+is_reserved names = has_backup names || begins_with_manifest names

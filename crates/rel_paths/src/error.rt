@@ -1,4 +1,5 @@
 // Why a text is no path, id or name.
+use std::alloc::AllocError;
 use thiserror::Error;
 
 /// Why a text was refused. Of several faults the first in this order is told.
@@ -19,4 +20,15 @@ pub enum PathError {
     /// Memory ran out.
     #[error("out of memory")]
     Memory,
+}
+
+impl From<AllocError> for PathError {
+    ghost use Rattle.std.specs.Prelude.{◌≡◌};
+    ghost use Rattle.rel_paths.specs.declared.error.PathError.TheVariants.{Memory};
+
+    ghost from_gives = { λ _ e. e ≡ Memory };
+
+    fn from(_e: AllocError) -> PathError {
+        PathError::Memory
+    }
 }

@@ -6,6 +6,7 @@
 mod control;
 mod error;
 mod mod_id;
+mod names;
 mod path;
 
 pub use control::Control;

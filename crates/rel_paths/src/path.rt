@@ -1,8 +1,20 @@
 // A path below a root.
-ghost use Rattle.std.specs.Prelude.{◌≡◌};
+ghost use Rattle.std.specs.Prelude.{◌≡◌, IfOk, IfErr, IfSome, Some, nat_eq, refl};
+ghost use Rattle.std.specs.Ordering.{nat_cmp};
+ghost use Rattle.std.specs.Hash as fed;
+ghost use Rattle.std.specs.Cmp.Lexicographic.{pointwise, slice_cmp, nat_list_eq_equiv, nat_list_cmp_total, texts_ties, texts_po};
+ghost use Rattle.std.specs.Cmp.{partial_equiv_from_equiv};
+ghost use Rattle.std.specs.Cmp.Rules.{hashing};
+ghost use Rattle.std.proofs.Common.{rules};
+ghost use Rattle.rel_paths.specs.Names.{names_of, is_reserved, path_fault, user_limits, IsUserPath, IsHeldPath, Explains};
 ghost use Rattle.rel_paths.specs.Controls.{control_path};
 
-use crate::Control;
+use crate::{Control, PathError, names};
+use std::alloc::{AllocError, Global};
+use std::cmp::Ordering;
+use std::convert::AsStr;
+use std::fmt;
+use std::hash::{Hash, Hasher};
 use std::marker::Model;
 
 /// A held path: 1 to 72 good names of at most 254 bytes each, joined by `/`, with at most 1,400
@@ -32,18 +44,62 @@ impl Model for RelPath {
 }
 
 impl RelPath {
+    /// The user path with this text: 1 to 64 good names of at most 240 bytes each, joined by `/`,
+    /// with at most 1,024 bytes in all. A text that is none gives its first fault.
+    pub fn parse(alloc: Global, text: &str) -> Result<RelPath, PathError>
+        ensures same { IfOk result (λ path. path ≡ text.now) }
+        ensures user { IfOk result (λ path. IsUserPath path) }
+        ensures err { IfErr result (λ e. Explains e (path_fault user_limits text.now)) }
+        ensures fault { IfSome (path_fault user_limits text.now) (λ e. result ≡ Err e) }
+    {
+        match names::path_fault(&names::USER, text) {
+            Some(fault) => Err(fault),
+            None => Ok(RelPath {
+                text: Text::Own(text.to_string(alloc)?),
+            }),
+        }
+    }
+
+    /// The path of a control place below its root. It takes no memory.
+    pub fn control(which: Control) -> RelPath
+        ensures { result ≡ control_path which }
+    {
+        RelPath {
+            text: Text::Control(which),
+        }
+    }
+
+    /// An equal path. A control place's takes no memory.
+    pub fn copy(&self) -> Result<RelPath, AllocError>
+        ensures { IfOk result (λ path. path ≡ self.now) }
+    {
+        let text = match &self.text {
+            Text::Own(text) => Text::Own(text.clone()?),
+            Text::Control(which) => Text::Control(*which),
+        };
+        Ok(RelPath { text })
+    }
+
     /// The names, joined by `/`.
     pub fn text(&self) -> &str
-        ensures { result.now ≡ self.now }
+        ensures same { result.now ≡ self.now }
+        ensures held { IsHeldPath self.now }
     {
         match &self.text {
             Text::Own(text) => text.as_str(),
             Text::Control(which) => control_text(*which),
         }
     }
+
+    /// Whether some name is that of a backup, or the first name is the manifest's.
+    pub fn is_reserved(&self) -> bool
+        ensures { result ≡ is_reserved (names_of self.now) }
+    {
+        names::is_reserved(self.text())
+    }
 }
 
-pub(crate) fn control_text(which: Control) -> &'static str
+fn control_text(which: Control) -> &'static str
     ensures { result.now ≡ control_path which }
 {
     match which {
@@ -53,5 +109,76 @@ pub(crate) fn control_text(which: Control) -> &'static str
         Control::ProfileTemp => "profile.tmp",
         Control::Profile => "profile.toml",
         Control::Manifest => "vortex.deployment.json",
+    }
+}
+
+impl AsStr for RelPath {
+    ghost text = { λ path. path };
+
+    fn as_str(&self) -> &str {
+        self.text()
+    }
+}
+
+impl PartialEq for RelPath {
+    ghost eq = { pointwise nat_eq };
+
+    ghost laws = { partial_equiv_from_equiv nat_list_eq_equiv };
+
+    fn eq(&self, other: &RelPath) -> bool {
+        self.text() == other.text()
+    }
+}
+
+impl Eq for RelPath {
+    ghost laws = { nat_list_eq_equiv };
+}
+
+impl PartialOrd for RelPath {
+    ghost partial_cmp = { λ x y. Some (slice_cmp nat_cmp x y) };
+
+    ghost laws = { texts_po };
+
+    fn partial_cmp(&self, other: &RelPath) -> Option<Ordering> {
+        Some(self.cmp(other))
+    }
+}
+
+/// The order of the bytes of the texts.
+impl Ord for RelPath {
+    ghost cmp = { slice_cmp nat_cmp };
+
+    ghost total = { nat_list_cmp_total };
+
+    ghost matches_partial_cmp = { λ x y. refl };
+
+    ghost matches_eq = { texts_ties };
+
+    fn cmp(&self, other: &RelPath) -> Ordering {
+        self.text().cmp(other.text())
+    }
+}
+
+impl Hash for RelPath {
+    ghost hash_input = { fed.str };
+
+    ghost respects_eq = { Prim.search (hashing, rules) };
+
+    fn hash<H: Hasher>(&self, state: &mut H) {
+        self.text().hash(state);
+    }
+}
+
+impl fmt::Debug for RelPath {
+    fn fmt<W: fmt::Write>(&self, f: &mut fmt::Formatter<W>) -> fmt::Result {
+        f.write_str(self.text())
+    }
+}
+
+impl fmt::Display for RelPath {
+    ghost output = { λ path. Some path };
+
+    fn fmt<W: fmt::Write>(&self, f: &mut fmt::Formatter<W>) -> fmt::Result {
+        f.write_str(self.text())
     }
 }

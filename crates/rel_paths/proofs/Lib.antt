@@ -1,0 +1,3 @@
+pub mod NamesOf
+pub mod Limits
+pub mod First
