@@ -1,0 +1,59 @@
+use Rattle.std.specs.Prelude.{◌≡◌, ◌⊎◌, ℕ, List, [], ◌∷◌, length}
+use Rattle.std.specs.List.{Contains}
+use Rattle.std.specs.List.Sorted.{IsStrictlySortedBy}
+use Rattle.std.specs.Ordering.{nat_cmp}
+use Rattle.std.specs.Cmp.Lexicographic.{slice_cmp}
+use Rattle.std.specs.declared.cmp.Ordering.TheVariants.{Less}
+use Rattle.rel_paths.specs.Names.{names_of, IsModId}
+use Rattle.tree_fs.specs.declared.place.Root.TheVariants.{Stage, Game}
+use Rattle.tree_fs.specs.declared.name.Kind.TheVariants.{File, Folder}
+use Rattle.tree_fs.specs.Spot.{Spot}
+use Rattle.tree_fs.specs.Disk.{Disk, kind_of}
+
+-- one text stands before another in byte order
+abbrev pub IsBelow : List ℕ → List ℕ → Type 0
+IsBelow a b = slice_cmp nat_cmp a b ≡ Less
+
+abbrev pub IsAtMost : List ℕ → List ℕ → Type 0
+IsAtMost a b = (a ≡ b) ⊎ IsBelow a b
+
+abbrev pub mod_folder : List ℕ → Spot
+mod_folder id = record { root = Stage; names = id ∷ [] }
+
+-- where a mod has its file for a path
+abbrev pub staged_spot : List ℕ → List ℕ → Spot
+staged_spot id path = record { root = Stage; names = id ∷ names_of path }
+
+-- where a path is deployed
+abbrev pub game_spot : List ℕ → Spot
+game_spot path = record { root = Game; names = names_of path }
+
+-- the folders of `stage` whose names are mods' ids are the mods
+pub record IsMod (d : Disk) (id : List ℕ) : Type 0 where
+  pub named : IsModId id
+  pub folder : kind_of d (mod_folder id) ≡ Folder
+
+-- the mod has a file for the path
+pub record Provides (d : Disk) (id path : List ℕ) : Type 0 where
+  pub is_mod : IsMod d id
+  pub file : kind_of d (staged_spot id path) ≡ File
+
+abbrev pub IsProvided : Disk → List ℕ → Type 0
+IsProvided d path = (id : List ℕ) × Provides d id path
+
+-- of the mods that have a path, the last in byte order wins it
+pub record IsWinner (d : Disk) (id path : List ℕ) : Type 0 where
+  pub provides : Provides d id path
+  pub last : (other : List ℕ) → Provides d other path → IsAtMost other id
+
+-- the provided paths, each once
+pub record ListsProvided (d : Disk) (paths : List (List ℕ)) : Type 0 where
+  pub order : IsStrictlySortedBy (slice_cmp nat_cmp) paths
+  pub each : (path : List ℕ) → Contains paths path → IsProvided d path
+  pub whole : (path : List ℕ) → IsProvided d path → Contains paths path
+
+-- how many paths are provided
+pub record CountsProvided (d : Disk) (count : ℕ) : Type 0 where
+  pub paths : List (List ℕ)
+  pub lists : ListsProvided d paths
+  pub counts : count ≡ length paths
