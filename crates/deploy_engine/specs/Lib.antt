@@ -5,3 +5,5 @@ pub mod Refusals
 pub mod Deployed
 pub mod Lines
 pub mod Answers
+pub mod Flat
+pub mod Looks

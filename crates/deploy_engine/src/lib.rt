@@ -6,6 +6,8 @@
 
 mod answer;
 mod engine;
+mod staged;
+mod words;
 mod limits;
 mod refusal;
 
