@@ -2,16 +2,14 @@
 use Rattle.std.proofs.Common.{◌≡◌, ◌≢◌, ◌⊎◌, ℕ, Bool, true, false, ◌&&◌, List, [], ◌∷◌, ◌++◌, refl, sym, ap, subst, ◌∙◌, arith, inl, inr, append-nil}
 use Rattle.std.specs.Bool.{Decides}
 use Rattle.std.specs.Cmp.Lexicographic.{pointwise}
-use Rattle.std.specs.List.{join_with_byte}
 use Rattle.std.specs.Str.{bytes_eq}
 use Rattle.std.specs.declared.option.Option.{Option}
 use Rattle.std.specs.declared.option.Option.TheVariants.{None, Some}
 use Rattle.std.proofs.lemmas.Bool.Decides.{Decides-and, Decides-like}
-use Rattle.std.proofs.lemmas.List.Splits.{join_with_byte-slice_split, length-slice_split}
 use Rattle.std.proofs.lemmas.List.{append_cancel_left}
 use Rattle.std.proofs.lemmas.Slice.Eq.{slice_eq-Decides, bytes_eq-Decides}
-use Rattle.std.specs.Prelude.{eqb, length}
 use Rattle.rel_paths.specs.Names.{names_of}
+use Rattle.rel_paths.proofs.NamesOf.{has_names, same_text}
 use Rattle.tree_fs.specs.declared.place.Place.{Place}
 use Rattle.tree_fs.specs.declared.place.Root.{Root}
 use Rattle.tree_fs.specs.declared.place.Root.TheVariants.{Stage, Game, Keep}
@@ -159,17 +157,14 @@ root_or_below q = by_names (has_some q.names) refl
         let is : q ≡ root_spot q.root = same_spot q (root_spot q.root) refl (none_there q.names e) in
         inl (is, ap parent is ∙ parent-root q.root ∙ sym is)
 
--- equal texts have equal names, and the other way round
-pub same_text : (a b : List ℕ) → names_of a ≡ names_of b → a ≡ b
-same_text a b e = sym (join_with_byte-slice_split 47 a) ∙ ap (join_with_byte 47) e ∙ join_with_byte-slice_split 47 b
-
-pub has_names : (t : List ℕ) → names_of t ≢ []
-has_names t e = let one = length-slice_split (λ b. eqb b 47) t in absurd (omega (arith, one, ap length e))
+-- a text has a name, so a path has one
+pub not_nameless : (t : List ℕ) → names_of t ≢ []
+not_nameless t e = let first = has_names t in cc
 
 same_below : (a b : Option (List ℕ)) → names_below a ≡ names_below b → a ≡ b
 same_below None None e = refl
-same_below None (Some t) e = absurd (has_names t (sym e))
-same_below (Some t) None e = absurd (has_names t e)
+same_below None (Some t) e = absurd (not_nameless t (sym e))
+same_below (Some t) None e = absurd (not_nameless t e)
 same_below (Some t) (Some u) e = ap Some (same_text t u e)
 
 -- two places that lie at one spot are one
