@@ -1,11 +1,10 @@
 -- What a new value and a sync do to a disk.
 use Rattle.std.proofs.Common.{◌≡◌, ◌≢◌, ◌⊎◌, ℕ, ◌<◌, Bool, true, false, List, [], ◌∷◌, refl, sym, ap, ◌∙◌, arith, inl, inr, subst}
 use Rattle.std.proofs.lemmas.Grind.{common_steps}
-use Rattle.tree_fs.specs.declared.place.Root.{Root}
-use Rattle.tree_fs.specs.Spot.{Spot, root_spot, parent, is_entry}
-use Rattle.tree_fs.specs.Disk.{Disk, Value, none, file, odd, IsIn, MayHold, NothingPending, IsFile, IsValid, set_at, put, before_synced, synced}
-use Rattle.tree_fs.proofs.Spots.{same_or_other, is_entry_tells}
-use Rattle.tree_fs.proofs.Functions.{set_at_tells, set_at-same, set_at-other}
+use Rattle.tree_fs.specs.Spot.{Spot, parent, is_entry}
+use Rattle.tree_fs.specs.Disk.{Disk, Value, none, file, IsIn, MayHold, IsFile, IsValid, put, before_synced, synced}
+use Rattle.tree_fs.proofs.Spots.{same_or_other}
+use Rattle.tree_fs.proofs.Functions.{set_at-same, set_at-other}
 
 pub in-now : (d : Disk) (q : Spot) → MayHold d q (d.now q)
 in-now d q = inl refl
@@ -36,9 +35,9 @@ MayHold-put_other d p q v w ne (inr h) = inr (subst (IsIn w) (before-put_other d
 pub MayHold-put : (d : Disk) (p q : Spot) (v w : Value) → MayHold (put d p v) q w → ((q ≡ p) × (w ≡ v)) ⊎ MayHold d q w
 MayHold-put d p q v w h = elim (same_or_other q p) [
   | inl same ↦ elim (MayHold-put_at d p v w (subst (λ s. MayHold (put d p v) s w) same h)) [
-      | inl new ↦ inl (same, new)
-      | inr old ↦ inr (subst (λ s. MayHold d s w) (sym same) old)
-    ]
+    | inl new ↦ inl (same, new)
+    | inr old ↦ inr (subst (λ s. MayHold d s w) (sym same) old)
+  ]
   | inr ne ↦ inr (MayHold-put_other d p q v w ne h)
 ]
 

@@ -1,8 +1,8 @@
 -- Functions that differ at one place.
-use Rattle.std.proofs.Common.{◌≡◌, ◌≢◌, ◌⊎◌, ℕ, ◌==◌, Bool, true, false, List, refl, sym, ap, ◌∙◌, arith, inl, inr}
+use Rattle.std.proofs.Common.{◌≡◌, ◌≢◌, ◌⊎◌, ℕ, ◌==◌, Bool, true, false, refl, sym, ap, ◌∙◌, arith, inl, inr}
 use Rattle.std.proofs.lemmas.Bool.Decides.{Decides-eqb}
-use Rattle.tree_fs.specs.Spot.{Spot, spot_eq}
-use Rattle.tree_fs.specs.Disk.{Disk, Value, set_at, set_number}
+use Rattle.tree_fs.specs.Spot.{Spot}
+use Rattle.tree_fs.specs.Disk.{Disk, set_at, set_number}
 use Rattle.tree_fs.proofs.Spots.{spot_eq-same, spot_eq_tells}
 
 pub set_at_tells : {X : Type 0} (f : Spot → X) (p : Spot) (x : X) (q : Spot) → ((set_at f p x q ≡ x) × (q ≡ p)) ⊎ ((set_at f p x q ≡ f q) × (q ≢ p))

@@ -1,9 +1,9 @@
 -- What a stop leaves after an op, in the words of before it.
-use Rattle.std.proofs.Common.{◌≡◌, ◌≢◌, ◌⊎◌, ℕ, ◌<◌, Bool, true, false, List, [], ◌∷◌, refl, sym, ap, ◌∙◌, inl, inr, subst}
+use Rattle.std.proofs.Common.{◌≡◌, ◌≢◌, ◌⊎◌, ℕ, ◌<◌, Bool, true, false, [], refl, sym, ap, ◌∙◌, inl, inr, subst}
 use Rattle.tree_fs.specs.Spot.{Spot}
 use Rattle.tree_fs.specs.Disk.{Disk, Value, none, file, MayHold, NothingPending, IsValid, Image, put, synced}
 use Rattle.tree_fs.proofs.Spots.{same_or_other}
-use Rattle.tree_fs.proofs.Disks.{MayHold-put, MayHold-put_other, MayHold-put_at, MayHold-synced, MayHold-settled}
+use Rattle.tree_fs.proofs.Disks.{MayHold-put_other, MayHold-put_at, MayHold-synced, MayHold-settled}
 
 -- what a place has after a stop it held before, or it is a folder's and has nothing
 pub Image-held : (d left : Disk) (q : Spot) → Image d left → MayHold d q (left.now q) ⊎ (left.now q ≡ none)
@@ -72,17 +72,17 @@ pub Image-put : (d left : Disk) (p : Spot) (v : Value) → d.folders p ≡ false
 Image-put d left p v plain image = elim (MayHold-put_at d p v (left.now p) (image.value p plain)) [
   | inl new ↦ inl new
   | inr old ↦ inr (record {
-      folders = image.folders;
-      value = λ q no_folder. elim (same_or_other q p) [
-        | inl same ↦ subst (λ s. MayHold d s (left.now s)) (sym same) old
-        | inr ne ↦ MayHold-put_other d p q v (left.now q) ne (image.value q no_folder)
-      ];
-      bare = image.bare;
-      settled = image.settled;
-      bytes = image.bytes;
-      firm = image.firm;
-      fresh = image.fresh;
-    })
+    folders = image.folders;
+    value = λ q no_folder. elim (same_or_other q p) [
+      | inl same ↦ subst (λ s. MayHold d s (left.now s)) (sym same) old
+      | inr ne ↦ MayHold-put_other d p q v (left.now q) ne (image.value q no_folder)
+    ];
+    bare = image.bare;
+    settled = image.settled;
+    bytes = image.bytes;
+    firm = image.firm;
+    fresh = image.fresh;
+  })
 ]
 
 -- away from the new value, what a stop leaves is what it left before

@@ -1,6 +1,5 @@
 -- What an answer of a tree's `kind` tells.
-use Rattle.std.proofs.Common.{◌≡◌, ◌≢◌, ℕ, Bool, true, false, cond, refl, sym, ap, ◌∙◌}
-use Rattle.tree_fs.specs.declared.name.Kind.{Kind}
+use Rattle.std.proofs.Common.{◌≡◌, ℕ, Bool, true, false, cond, refl}
 use Rattle.tree_fs.specs.declared.name.Kind.TheVariants.{Absent, File, Folder, Other}
 use Rattle.tree_fs.specs.Spot.{Spot}
 use Rattle.tree_fs.specs.Disk.{Disk, Value, none, file, odd, IsFile, kind_at, kind_of}

@@ -7,3 +7,4 @@ pub mod Images
 pub mod Stories
 pub mod Moments
 pub mod Lists
+pub mod Texts

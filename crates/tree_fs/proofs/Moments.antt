@@ -1,7 +1,6 @@
 -- Facts of every disk along a story.
-use Rattle.std.proofs.Common.{◌≡◌, ◌⊎◌, ℕ, Bool, true, false, List, [], ◌∷◌, ◌++◌, refl, sym, ap, ◌∙◌, inl, inr, subst}
+use Rattle.std.proofs.Common.{◌≡◌, Bool, true, false, List, [], ◌∷◌, ◌++◌, refl, sym, ap, ◌∙◌, inl, inr, subst}
 use Rattle.std.specs.declared.result.Result.{Result}
-use Rattle.std.specs.declared.result.Result.TheVariants.{Ok, Err}
 use Rattle.tree_fs.specs.declared.op.Op.{Op}
 use Rattle.tree_fs.specs.declared.tree.TreeError.{TreeError}
 use Rattle.tree_fs.specs.Disk.{Disk, after, after_all}
@@ -89,9 +88,9 @@ pub along_adds : {T : Type 0} (P : Disk → Type 0) (op : Bool → Op) (s t : St
 along_adds P op s t result adds here done not_done = elim (AddsOne-maybe op s t result adds) [
   | inl nothing ↦ subst (λ u. Along P s u) (sym nothing) (along_here P s here)
   | inr step ↦ elim step [
-      | inl is ↦ along_op P (op true) s t is here done
-      | inr is ↦ along_op P (op false) s t is here not_done
-    ]
+    | inl is ↦ along_op P (op true) s t is here done
+    | inr is ↦ along_op P (op false) s t is here not_done
+  ]
 ]
 
 -- one call more

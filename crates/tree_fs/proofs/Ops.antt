@@ -1,14 +1,14 @@
 -- What each step does, in the words of a place.
-use Rattle.std.proofs.Common.{◌≡◌, ◌≢◌, ◌⊎◌, ℕ, ◌+◌, ◌<◌, ◌==◌, Bool, true, false, List, [], ◌∷◌, refl, sym, ap, ◌∙◌, inl, inr, subst, arith}
+use Rattle.std.proofs.Common.{◌≡◌, ◌≢◌, ◌⊎◌, ℕ, ◌+◌, ◌==◌, Bool, true, false, [], refl, ap, inl, inr}
 use Rattle.std.proofs.lemmas.Bool.Decides.{Decides-eqb}
 use Rattle.tree_fs.specs.declared.op.Op.{Op}
 use Rattle.tree_fs.specs.declared.op.Op.TheVariants.{Link, Unlink, Rename, Create, Fill, MakeFolder, RemoveFolder, SyncFolder, SyncFile}
 use Rattle.tree_fs.specs.declared.place.Place.{Place}
-use Rattle.tree_fs.specs.Spot.{Spot, spot_of, parent, is_entry}
-use Rattle.tree_fs.specs.Disk.{Disk, Value, none, file, odd, MayHold, IsFile, IsValid, set_at, set_number, put, synced, is_one_file, filled, made_firm, created, renamed, after}
+use Rattle.tree_fs.specs.Spot.{Spot, spot_of, is_entry}
+use Rattle.tree_fs.specs.Disk.{Disk, Value, none, file, odd, MayHold, IsValid, set_number, put, synced, is_one_file, renamed, after}
 use Rattle.tree_fs.specs.Calls.{CanLink}
-use Rattle.tree_fs.proofs.Functions.{set_at-same, set_at-other, set_number-same, set_number-other}
-use Rattle.tree_fs.proofs.Disks.{now-put_at, now-put_other, MayHold-put, MayHold-put_keeps, MayHold-synced, before-synced_in, valid-put, valid-synced, file-number, CanPut_value}
+use Rattle.tree_fs.proofs.Functions.{set_at-same, set_at-other}
+use Rattle.tree_fs.proofs.Disks.{now-put_at, now-put_other, MayHold-put, MayHold-put_keeps, MayHold-synced, before-synced_in, valid-put, valid-synced, file-number}
 
 abbrev pub is_done : Op → Bool
 is_done (Link from to done) = done

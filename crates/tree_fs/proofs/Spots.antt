@@ -1,8 +1,6 @@
 -- Spots: when two are one, what lies in a folder.
-use Rattle.std.proofs.Common.{◌≡◌, ◌≢◌, ◌⊎◌, ℕ, Bool, true, false, ◌&&◌, List, [], ◌∷◌, ◌++◌, refl, sym, ap, subst, ◌∙◌, arith, inl, inr, append-nil}
+use Rattle.std.proofs.Common.{◌≡◌, ◌≢◌, ◌⊎◌, ℕ, Bool, true, false, ◌&&◌, List, [], ◌∷◌, ◌++◌, refl, sym, ap, ◌∙◌, inl, inr, append-nil}
 use Rattle.std.specs.Bool.{Decides}
-use Rattle.std.specs.Cmp.Lexicographic.{pointwise}
-use Rattle.std.specs.Str.{bytes_eq}
 use Rattle.std.specs.declared.option.Option.{Option}
 use Rattle.std.specs.declared.option.Option.TheVariants.{None, Some}
 use Rattle.std.proofs.lemmas.Bool.Decides.{Decides-and, Decides-like}
@@ -50,7 +48,7 @@ pub spot_eq-Decides : (p q : Spot) → Decides (spot_eq p q) (p ≡ q)
 unfolding spot_eq
 spot_eq-Decides p q =
     Decides-like _ (λ both i. record { root = both.0 i; names = both.1 i }) (λ e. (ap (λ s. s.root) e, ap (λ s. s.names) e))
-      (Decides-and _ _ (root_eq-Decides p.root q.root) (slice_eq-Decides bytes_eq-Decides p.names q.names _ refl))
+    (Decides-and _ _ (root_eq-Decides p.root q.root) (slice_eq-Decides bytes_eq-Decides p.names q.names _ refl))
 
 pub spot_eq-same : (p : Spot) → spot_eq p p ≡ true
 spot_eq-same p = (spot_eq-Decides p p).1 refl

@@ -1,5 +1,5 @@
 -- Stories: what comes after what.
-use Rattle.std.proofs.Common.{◌≡◌, ◌⊎◌, ℕ, Bool, true, false, List, [], ◌∷◌, ◌++◌, refl, sym, ap, ◌∙◌, inl, inr, subst, append_assoc, append-nil}
+use Rattle.std.proofs.Common.{◌≡◌, ◌⊎◌, Bool, true, false, List, [], ◌∷◌, ◌++◌, refl, sym, ap, ◌∙◌, inl, inr, subst, append_assoc, append-nil}
 use Rattle.std.proofs.lemmas.List.{append_cancel_left}
 use Rattle.std.specs.declared.result.Result.{Result}
 use Rattle.std.specs.declared.result.Result.TheVariants.{Ok, Err}
@@ -43,9 +43,9 @@ pub disk_of-any : {T : Type 0} (op : Bool → Op) (old new : Story) (result : Re
 disk_of-any op old new result adds = elim (AddsOne-maybe op old new result adds) [
   | inl nothing ↦ inl (ap disk_of nothing)
   | inr step ↦ elim step [
-      | inl done ↦ inr (inl (disk_of-goes_on old new (op true ∷ []) done))
-      | inr not_done ↦ inr (inr (disk_of-goes_on old new (op false ∷ []) not_done))
-    ]
+    | inl done ↦ inr (inl (disk_of-goes_on old new (op true ∷ []) done))
+    | inr not_done ↦ inr (inr (disk_of-goes_on old new (op false ∷ []) not_done))
+  ]
 ]
 
 -- what the step keeps, done or not, the call keeps

@@ -43,7 +43,7 @@ pub struct Place {
 
 impl Place {
     /// The place of a path in the game folder.
-    pub fn game(path: &RelPath) -> Result<Place, AllocError>
+    pub fn game(_alloc: Global, path: &RelPath) -> Result<Place, AllocError>
         ensures { IfOk result (λ place. spot_of place ≡ game_spot path.now) }
     {
         Ok(Place {
