@@ -1,0 +1,10 @@
+pub mod Spots
+pub mod Functions
+pub mod Disks
+pub mod KindOf
+pub mod Ops
+pub mod Images
+pub mod Stories
+pub mod Moments
+pub mod Lists
+pub mod Texts

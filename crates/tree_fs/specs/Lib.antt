@@ -1,5 +1,6 @@
 pub mod EntryName
 pub mod Spot
+pub mod Places
 pub mod Disk
 pub mod Story
 pub mod Calls

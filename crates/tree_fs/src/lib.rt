@@ -5,6 +5,7 @@
 //! story of a tree.
 #![tactic(auto)]
 
+mod compare;
 mod name;
 mod op;
 mod place;

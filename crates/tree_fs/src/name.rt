@@ -1,4 +1,11 @@
 // What a folder has: names and kinds.
+ghost use Rattle.std.specs.Prelude.{◌≡◌, IfOk, IfErr, IfSome, Err, not, nat_eq, ◌&&◌};
+ghost use Rattle.std.specs.List.{list_all};
+ghost use Rattle.rel_paths.specs.Names.{Explains};
+ghost use Rattle.tree_fs.specs.EntryName.{IsName, is_entry_name, name_fault};
+
+use rel_paths::PathError;
+use std::alloc::Global;
 use std::marker::Model;
 
 /// What stands at a place.
@@ -29,6 +36,55 @@ impl Model for Name {
     ghost view = { λ a. string_bytes a.text };
 
     ghost invariant = { λ a. IsName (string_bytes a.text) };
+}
+
+impl Name {
+    /// The name with this text. `Empty` is for no bytes, `Long` for over 255 bytes, and
+    /// `BadName(0)` for other text that is no name.
+    pub fn parse(alloc: Global, text: &str) -> Result<Name, PathError>
+        ensures same { IfOk result (λ name. name ≡ text.now) }
+        ensures good { IfOk result (λ name. IsName name) }
+        ensures err { IfErr result (λ e. Explains e (name_fault text.now)) }
+        ensures fault { IfSome (name_fault text.now) (λ e. result ≡ Err e) }
+    {
+        if text.is_empty() {
+            return Err(PathError::Empty);
+        }
+        if text.len() > 255 {
+            return Err(PathError::Long);
+        }
+        if !is_entry_name(text) {
+            return Err(PathError::BadName(0));
+        }
+        Ok(Name {
+            text: text.to_string(alloc)?,
+        })
+    }
+
+    /// The name.
+    pub fn text(&self) -> &str
+        ensures same { result.now ≡ self.now }
+        ensures good { IsName self.now }
+    {
+        self.text.as_str()
+    }
+}
+
+fn has_name_bytes(text: &[u8]) -> bool
+    ensures { result ≡ list_all (λ b. not (nat_eq b 47) && not (nat_eq b 0)) text.now }
+{
+    text.iter().all(|b| *b != b'/' && *b != 0)
+}
+
+// Whether this text may be the name of an entry.
+fn is_entry_name(text: &str) -> bool
+    ensures { result ≡ is_entry_name text.now }
+{
+    !text.is_empty()
+        && text.len() <= 255
+        && text != "."
+        && text != ".."
+        && has_name_bytes(text.as_bytes())
 }
 
 /// An entry of a folder.

@@ -1,0 +1,131 @@
+-- What each step does, in the words of a place.
+use Rattle.std.proofs.Common.{◌≡◌, ◌≢◌, ◌⊎◌, ℕ, ◌+◌, ◌==◌, Bool, true, false, [], refl, ap, inl, inr}
+use Rattle.std.proofs.lemmas.Bool.Decides.{Decides-eqb}
+use Rattle.tree_fs.specs.declared.op.Op.{Op}
+use Rattle.tree_fs.specs.declared.op.Op.TheVariants.{Link, Unlink, Rename, Create, Fill, MakeFolder, RemoveFolder, SyncFolder, SyncFile}
+use Rattle.tree_fs.specs.declared.place.Place.{Place}
+use Rattle.tree_fs.specs.Spot.{Spot, spot_of, is_entry}
+use Rattle.tree_fs.specs.Disk.{Disk, Value, none, file, odd, MayHold, IsValid, set_number, put, synced, is_one_file, renamed, after}
+use Rattle.tree_fs.specs.Calls.{CanLink}
+use Rattle.tree_fs.proofs.Functions.{set_at-same, set_at-other}
+use Rattle.tree_fs.proofs.Disks.{now-put_at, now-put_other, MayHold-put, MayHold-put_keeps, MayHold-synced, before-synced_in, valid-put, valid-synced, file-number}
+
+abbrev pub is_done : Op → Bool
+is_done (Link from to done) = done
+is_done (Unlink at done) = done
+is_done (Rename from to done) = done
+is_done (Create at done) = done
+is_done (Fill at bytes done) = done
+is_done (MakeFolder at done) = done
+is_done (RemoveFolder at done) = done
+is_done (SyncFolder at done) = done
+is_done (SyncFile at done) = done
+
+-- a step that is not done changes nothing
+pub after-not_done : (d : Disk) (op : Op) → is_done op ≡ false → after d op ≡ d
+after-not_done d (Link from to false) e = refl
+after-not_done d (Unlink at false) e = refl
+after-not_done d (Rename from to false) e = refl
+after-not_done d (Create at false) e = refl
+after-not_done d (Fill at bytes false) e = refl
+after-not_done d (MakeFolder at false) e = refl
+after-not_done d (RemoveFolder at false) e = refl
+after-not_done d (SyncFolder at false) e = refl
+after-not_done d (SyncFile at false) e = refl
+after-not_done d (Link from to true) e = absurd (cc)
+after-not_done d (Unlink at true) e = absurd (cc)
+after-not_done d (Rename from to true) e = absurd (cc)
+after-not_done d (Create at true) e = absurd (cc)
+after-not_done d (Fill at bytes true) e = absurd (cc)
+after-not_done d (MakeFolder at true) e = absurd (cc)
+after-not_done d (RemoveFolder at true) e = absurd (cc)
+after-not_done d (SyncFolder at true) e = absurd (cc)
+after-not_done d (SyncFile at true) e = absurd (cc)
+
+-- Link
+
+pub now-linked : (d : Disk) (from to : Place) → (after d (Link from to true)).now (spot_of to) ≡ d.now (spot_of from)
+now-linked d from to = now-put_at d (spot_of to) _
+
+pub now-linked_other : (d : Disk) (from to : Place) (q : Spot) → q ≢ spot_of to → (after d (Link from to true)).now q ≡ d.now q
+now-linked_other d from to q ne = now-put_other d (spot_of to) _ q ne
+
+pub MayHold-linked : (d : Disk) (from to : Place) (q : Spot) (v : Value) → MayHold (after d (Link from to true)) q v → ((q ≡ spot_of to) × (v ≡ d.now (spot_of from))) ⊎ MayHold d q v
+MayHold-linked d from to q v h = MayHold-put d (spot_of to) q _ v h
+
+pub valid-linked : (d : Disk) (from to : Place) (done : Bool) → IsValid d → CanLink d (spot_of from) (spot_of to) → IsValid (after d (Link from to done))
+valid-linked d from to false valid can = valid
+valid-linked d from to true valid can = valid-put d (spot_of to) _ valid (record {
+  no_folder = can.no_folder;
+  in_folder = λ ne. can.in_folder;
+  number = λ n e. file-number d (spot_of from) n valid e;
+})
+
+-- Unlink
+
+pub now-unlinked : (d : Disk) (at : Place) → (after d (Unlink at true)).now (spot_of at) ≡ none
+now-unlinked d at = now-put_at d (spot_of at) none
+
+pub now-unlinked_other : (d : Disk) (at : Place) (q : Spot) → q ≢ spot_of at → (after d (Unlink at true)).now q ≡ d.now q
+now-unlinked_other d at q ne = now-put_other d (spot_of at) none q ne
+
+pub MayHold-unlinked : (d : Disk) (at : Place) (q : Spot) (v : Value) → MayHold (after d (Unlink at true)) q v → ((q ≡ spot_of at) × (v ≡ none)) ⊎ MayHold d q v
+MayHold-unlinked d at q v h = MayHold-put d (spot_of at) q none v h
+
+-- Rename
+
+pub is_one_file_tells : (v w : Value) → ((is_one_file v w ≡ true) × ((n : ℕ) × (v ≡ file n)) × (v ≡ w)) ⊎ ((is_one_file v w ≡ false) × ((n : ℕ) → v ≡ file n → w ≢ file n))
+is_one_file_tells none w = inr (refl, λ n e. absurd (cc))
+is_one_file_tells odd w = inr (refl, λ n e. absurd (cc))
+is_one_file_tells (file m) none = inr (refl, λ n e f. absurd (cc))
+is_one_file_tells (file m) odd = inr (refl, λ n e f. absurd (cc))
+is_one_file_tells (file m) (file n) = by_test (m == n) refl
+  where
+    by_test : (b : Bool) → (m == n) ≡ b → (((m == n) ≡ true) × ((k : ℕ) × (file m ≡ file k)) × (file m ≡ file n)) ⊎ (((m == n) ≡ false) × ((k : ℕ) → file m ≡ file k → file n ≢ file k))
+    by_test true e = inl (e, (m, refl), ap file ((Decides-eqb m n).0 e))
+    by_test false e = inr (e, λ k f g. let is : m ≡ n = cc in let h : (m == n) ≡ true = (Decides-eqb m n).1 is in cc)
+
+-- where both name one file nothing changes
+pub renamed-one : (d : Disk) (from to : Spot) → is_one_file (d.now from) (d.now to) ≡ true → renamed d from to ≡ d
+renamed-one d from to e = rw e refl
+
+pub renamed-apart : (d : Disk) (from to : Spot) → is_one_file (d.now from) (d.now to) ≡ false → renamed d from to ≡ put (put d to (d.now from)) from none
+renamed-apart d from to e = rw e refl
+
+-- Create
+
+pub now-created : (d : Disk) (at : Place) → (after d (Create at true)).now (spot_of at) ≡ file d.fresh
+now-created d at = set_at-same d.now (spot_of at) _
+
+pub now-created_other : (d : Disk) (at : Place) (q : Spot) → q ≢ spot_of at → (after d (Create at true)).now q ≡ d.now q
+now-created_other d at q ne = set_at-other d.now (spot_of at) _ q ne
+
+pub MayHold-created : (d : Disk) (at : Place) (q : Spot) (v : Value) → MayHold (after d (Create at true)) q v → ((q ≡ spot_of at) × (v ≡ file d.fresh)) ⊎ MayHold d q v
+MayHold-created d at q v h = MayHold-put (record d { bytes = set_number d.bytes d.fresh []; firm = set_number d.firm d.fresh false; fresh = d.fresh + 1 }) (spot_of at) q (file d.fresh) v h
+
+-- SyncFolder
+
+pub before-synced : (d : Disk) (at : Place) (q : Spot) → is_entry (spot_of at) q ≡ true → (after d (SyncFolder at true)).before q ≡ []
+before-synced d at q e = before-synced_in d (spot_of at) q e
+
+pub valid-folder_synced : (d : Disk) (at : Place) (done : Bool) → IsValid d → IsValid (after d (SyncFolder at done))
+valid-folder_synced d at true valid = valid-synced d (spot_of at) valid
+valid-folder_synced d at false valid = valid
+
+-- What places may hold, over all steps.
+
+-- what a place may hold on the one disk it may hold on the other
+abbrev pub HoldsWithin : Disk → Disk → Type 0
+HoldsWithin d e = (q : Spot) (v : Value) → MayHold d q v → MayHold e q v
+
+pub within-same : (d : Disk) → HoldsWithin d d
+within-same d q v h = h
+
+pub within-trans : (a b c : Disk) → HoldsWithin a b → HoldsWithin b c → HoldsWithin a c
+within-trans a b c h k q v held = k q v (h q v held)
+
+pub within-put : (d : Disk) (p : Spot) (v : Value) → HoldsWithin d (put d p v)
+within-put d p v q w h = MayHold-put_keeps d p q v w h
+
+pub within-synced : (d : Disk) (folder : Spot) → HoldsWithin (synced d folder) d
+within-synced d folder q v h = MayHold-synced d folder q v h

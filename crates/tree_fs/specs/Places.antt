@@ -1,0 +1,16 @@
+use Rattle.std.specs.Prelude.{List, ℕ, [], ◌∷◌}
+use Rattle.rel_paths.specs.Names.{names_of}
+use Rattle.tree_fs.specs.declared.place.Root.TheVariants.{Stage, Game}
+use Rattle.tree_fs.specs.Spot.{Spot}
+
+-- where a path lies in the game folder
+abbrev pub game_spot : List ℕ → Spot
+game_spot path = record { root = Game; names = names_of path }
+
+-- where a mod is unpacked
+abbrev pub mod_spot : List ℕ → Spot
+mod_spot id = record { root = Stage; names = id ∷ [] }
+
+-- where a mod's file of this path is unpacked
+abbrev pub staged_spot : List ℕ → List ℕ → Spot
+staged_spot id path = record { root = Stage; names = id ∷ names_of path }
