@@ -1,2 +1,7 @@
-pub mod Lists
 pub mod Sorting
+pub mod Listed
+pub mod ModsFound
+pub mod Winning
+pub mod Items
+pub mod Linking
+pub mod Deciding

@@ -7,3 +7,5 @@ pub mod Lines
 pub mod Answers
 pub mod Flat
 pub mod Looks
+pub mod Wins
+pub mod Decisions

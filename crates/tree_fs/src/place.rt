@@ -3,7 +3,7 @@ ghost use Rattle.std.specs.Prelude.{◌≡◌, IfOk};
 ghost use Rattle.std.specs.String.{string_bytes};
 ghost use Rattle.rel_paths.specs.Names.{IsUserPath};
 ghost use Rattle.tree_fs.specs.Spot.{spot_of};
-ghost use Rattle.tree_fs.specs.Places.{game_spot, mod_spot};
+ghost use Rattle.tree_fs.specs.Places.{game_spot, mod_spot, staged_spot};
 ghost use Rattle.tree_fs.specs.Texts.{root_word, place_text, control_spot};
 
 use rel_paths::{Control, ModId, RelPath};
@@ -50,6 +50,19 @@ impl Place {
             root: Root::Game,
             rel: Some(path.copy()?),
         })
+    }
+
+    pub fn staged(_alloc: Global, id: &ModId, path: &RelPath) -> Result<Place, AllocError>
+        requires { IsUserPath path.now }
+        ensures { IfOk result (λ place. spot_of place ≡ staged_spot id.now path.now) }
+    {
+        Err(AllocError)
+    }
+
+    pub fn mod_folder(_alloc: Global, id: &ModId) -> Result<Place, AllocError>
+        ensures { IfOk result (λ place. spot_of place ≡ mod_spot id.now) }
+    {
+        Err(AllocError)
     }
 
     /// A control place. It takes no memory.
