@@ -5,3 +5,4 @@ pub mod Winning
 pub mod Items
 pub mod Linking
 pub mod Deciding
+pub mod Speaking

@@ -9,3 +9,4 @@ pub mod Flat
 pub mod Looks
 pub mod Wins
 pub mod Decisions
+pub mod Done
