@@ -1,4 +1,6 @@
-use Rattle.std.specs.Prelude.{ℕ, List, [], ◌∷◌, ◌++◌, codes}
+use Rattle.std.specs.Prelude.{ℕ, ◌==◌, if◌then◌else◌, List, [], ◌∷◌, ◌++◌, codes}
+use Rattle.std.specs.Hash as fed
+use Rattle.std.specs.Hash.{HashWrites}
 use Rattle.std.specs.declared.option.Option.{Option}
 use Rattle.std.specs.declared.option.Option.TheVariants.{None, Some}
 use Rattle.rel_paths.specs.declared.control.Control.{Control}
@@ -37,3 +39,20 @@ control_root Profile = Keep
 -- where a control place lies on a disk
 abbrev pub control_spot : Control → Spot
 control_spot which = record { root = control_root which; names = names_of (control_path which) }
+
+-- what stands before the first slash of a text, and what stands behind it
+abbrev pub word_of : List ℕ → List ℕ
+word_of [] = []
+word_of (b ∷ bs) = if b == 47 then [] else b ∷ word_of bs
+
+abbrev pub below_word : List ℕ → Option (List ℕ)
+below_word [] = None
+below_word (b ∷ bs) = if b == 47 then Some bs else below_word bs
+
+abbrev pub rel_writes : Option (List ℕ) → HashWrites
+rel_writes None = []
+rel_writes (Some path) = fed.str path
+
+-- what the hash of a place is made of: the root's word, and the path
+unfoldable pub text_writes : List ℕ → HashWrites
+text_writes text = fed.str (word_of text) ++ rel_writes (below_word text)
