@@ -9,7 +9,7 @@ use Rattle.tree_fs.specs.Disk.{Disk, Value, none, file, odd, IsIn, MayHold, IsFi
 use Rattle.tree_fs.specs.Calls.{CanLink, CanUnlink, CanRename, CanPut, CanMakeFolder, CanRemoveFolder}
 use Rattle.tree_fs.proofs.Spots.{root_or_below}
 use Rattle.tree_fs.proofs.Functions.{set_at_tells, set_at-same, set_at-other, set_number_tells, set_number-same, set_number-other}
-use Rattle.tree_fs.proofs.Disks.{now-put_at, now-put_other, MayHold-put, MayHold-put_keeps, MayHold-synced, before-synced_in, file-no_folder, valid-put, valid-synced, file-number, CanPut_value}
+use Rattle.tree_fs.proofs.Disks.{now-put_at, now-put_other, MayHold-put, MayHold-put_keeps, MayHold-synced, before-synced_in, file-no_folder, valid-put, valid-synced, file-number, TakesValue}
 
 abbrev pub is_done : Op → Bool
 is_done (Link from to done) = done
