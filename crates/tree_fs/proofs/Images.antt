@@ -102,8 +102,8 @@ Image-made_firm d left v image =
 pub Image-filled : (d left : Disk) (n : ℕ) (bytes : List ℕ) → d.firm n ≡ false → Image (filled d (file n) bytes) left → Image d left
 Image-filled d left n bytes soft image =
     Image-less d (filled d (file n) bytes) left refl (λ q v h. h) (λ k e.
-      let ne : k ≢ n = λ is. let h : true ≡ false = sym e ∙ ap d.firm is ∙ soft in cc in
-      (firm-filled_other d n k bytes ne ∙ e, bytes-filled_other d n k bytes ne)) refl image
+    let ne : k ≢ n = λ is. let h : true ≡ false = sym e ∙ ap d.firm is ∙ soft in cc in
+    (firm-filled_other d n k bytes ne ∙ e, bytes-filled_other d n k bytes ne)) refl image
 
 -- a place with a new file has it after a stop, or what it had before
 pub Image-created : (d left : Disk) (at : Place) (q : Spot) → Image (after d (Create at true)) left → d.folders q ≡ false → ((q ≡ spot_of at) × (left.now q ≡ file d.fresh)) ⊎ MayHold d q (left.now q)

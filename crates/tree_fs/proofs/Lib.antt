@@ -8,3 +8,4 @@ pub mod Stories
 pub mod Moments
 pub mod Lists
 pub mod Texts
+pub mod Parses

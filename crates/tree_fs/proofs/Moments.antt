@@ -1,6 +1,7 @@
 -- Facts of every disk along a story.
 use Rattle.std.proofs.Common.{◌≡◌, ℕ, Bool, true, false, List, [], ◌∷◌, ◌++◌, refl, sym, ap, ◌∙◌, inl, inr, subst, append-nil}
 use Rattle.std.specs.declared.result.Result.{Result}
+use Rattle.std.specs.declared.result.Result.TheVariants.{Ok, Err}
 use Rattle.tree_fs.specs.declared.op.Op.{Op}
 use Rattle.tree_fs.specs.declared.tree.TreeError.{TreeError}
 use Rattle.tree_fs.specs.Disk.{Disk, after, after_all}
@@ -88,9 +89,9 @@ along_maybe : (P : Disk → Type 0) (op : Bool → Op) (s t : Story) → AddsMay
 along_maybe P op s t adds here done not_done = elim adds [
   | inl nothing ↦ subst (λ u. Along P s u) (sym nothing) (along_here P s here)
   | inr step ↦ elim step [
-      | inl is ↦ along_op P (op true) s t is here done
-      | inr is ↦ along_op P (op false) s t is here not_done
-    ]
+    | inl is ↦ along_op P (op true) s t is here done
+    | inr is ↦ along_op P (op false) s t is here not_done
+  ]
 ]
 
 -- a call of the tree: the fact holds before it, and after its step, done or not
@@ -111,10 +112,10 @@ along_new P at bytes s t (Ok answer) adds here made with = record {
 along_new P at bytes s t (Err e) adds here made with = elim adds.err [
   | inl first ↦ along_maybe P (Create at) s t first here made here
   | inr part ↦ record {
-      ops = Create at true ∷ Fill at part.front part.done ∷ [];
-      goes_on = part.adds;
-      each = (here, (made, with_part part.front part.rest part.parts part.done));
-    }
+    ops = Create at true ∷ Fill at part.front part.done ∷ [];
+    goes_on = part.adds;
+    each = (here, (made, with_part part.front part.rest part.parts part.done));
+  }
 ]
   where
     with_part : (front rest : List ℕ) → bytes ≡ front ++ rest → (done : Bool) → P (after (after (disk_of s) (Create at true)) (Fill at front done))

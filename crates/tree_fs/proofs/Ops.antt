@@ -1,15 +1,15 @@
 -- What each step does, in the words of a place.
-use Rattle.std.proofs.Common.{◌≡◌, ◌≢◌, ◌⊎◌, ℕ, ◌+◌, ◌<◌, ◌==◌, Bool, true, false, List, [], ◌∷◌, refl, sym, ap, ◌∙◌, inl, inr, subst, arith}
+use Rattle.std.proofs.Common.{◌≡◌, ◌≢◌, ◌⊎◌, ℕ, ◌+◌, ◌<◌, ◌==◌, Bool, true, false, List, [], refl, sym, ap, ◌∙◌, inl, inr, subst, arith}
 use Rattle.std.proofs.lemmas.Bool.Decides.{Decides-eqb}
 use Rattle.tree_fs.specs.declared.op.Op.{Op}
 use Rattle.tree_fs.specs.declared.op.Op.TheVariants.{Link, Unlink, Rename, Create, Fill, MakeFolder, RemoveFolder, SyncFolder, SyncFile}
 use Rattle.tree_fs.specs.declared.place.Place.{Place}
 use Rattle.tree_fs.specs.Spot.{Spot, spot_of, root_spot, parent, is_entry, below}
-use Rattle.tree_fs.specs.Disk.{Disk, Value, none, file, odd, IsIn, MayHold, IsFile, IsValid, set_at, set_number, put, synced, is_one_file, filled, made_firm, created, renamed, after}
+use Rattle.tree_fs.specs.Disk.{Disk, Value, none, file, odd, IsIn, MayHold, IsFile, IsValid, set_number, put, synced, is_one_file, filled, made_firm, created, renamed, after}
 use Rattle.tree_fs.specs.Calls.{CanLink, CanUnlink, CanRename, CanPut, CanMakeFolder, CanRemoveFolder}
 use Rattle.tree_fs.proofs.Spots.{root_or_below}
 use Rattle.tree_fs.proofs.Functions.{set_at_tells, set_at-same, set_at-other, set_number_tells, set_number-same, set_number-other}
-use Rattle.tree_fs.proofs.Disks.{now-put_at, now-put_other, MayHold-put, MayHold-put_keeps, MayHold-synced, before-synced_in, file-no_folder, valid-put, valid-synced, file-number, TakesValue}
+use Rattle.tree_fs.proofs.Disks.{now-put_at, now-put_other, MayHold-put, MayHold-put_keeps, MayHold-synced, before-synced_in, file-no_folder, valid-put, valid-synced, file-number}
 
 abbrev pub is_done : Op → Bool
 is_done (Link from to done) = done
@@ -127,9 +127,9 @@ pub MayHold-renamed : (d : Disk) (from to q : Spot) (v : Value) → MayHold (ren
 MayHold-renamed d from to q v h = elim (is_one_file_tells (d.now from) (d.now to)) [
   | inl s ↦ inr (inr (subst (λ (e : Disk). MayHold e q v) (renamed-one d from to s.0) h))
   | inr s ↦ elim (MayHold-put (put d to (d.now from)) from q none v (subst (λ (e : Disk). MayHold e q v) (renamed-apart d from to s.0) h)) [
-      | inl gone ↦ inr (inl gone)
-      | inr held ↦ elim (MayHold-put d to q (d.now from) v held) [ inl new ↦ inl new | inr old ↦ inr (inr old) ]
-    ]
+    | inl gone ↦ inr (inl gone)
+    | inr held ↦ elim (MayHold-put d to q (d.now from) v held) [ inl new ↦ inl new | inr old ↦ inr (inr old) ]
+  ]
 ]
 
 -- all but the values of places stays
@@ -334,11 +334,11 @@ valid-folder_removed d at true valid can = record {
   nested = λ q is. elim (set_at_tells d.folders (spot_of at) false q) [
     | inl s ↦ let h : true ≡ false = sym is ∙ s.0 in absurd (cc)
     | inr s ↦
-      let there : d.folders q ≡ true = sym s.0 ∙ is in
-      folders-removed_other d at (parent q) (parent-not d (spot_of at) q can.not_root (λ n e. let h : true ≡ false = sym there ∙ ap d.folders e ∙ can.no_folders n in cc)) ∙ valid.nested q there
+        let there : d.folders q ≡ true = sym s.0 ∙ is in
+        folders-removed_other d at (parent q) (parent-not d (spot_of at) q can.not_root (λ n e. let h : true ≡ false = sym there ∙ ap d.folders e ∙ can.no_folders n in cc)) ∙ valid.nested q there
   ];
   parents = λ q v h ne.
-    folders-removed_other d at (parent q) (parent-not d (spot_of at) q can.not_root (λ n e. ne (can.empty n v (subst (λ x. MayHold d x v) e h)))) ∙ valid.parents q v h ne;
+      folders-removed_other d at (parent q) (parent-not d (spot_of at) q can.not_root (λ n e. ne (can.empty n v (subst (λ x. MayHold d x v) e h)))) ∙ valid.parents q v h ne;
   bare = λ q is. elim (set_at_tells d.folders (spot_of at) false q) [
     | inl s ↦ let h : true ≡ false = sym is ∙ s.0 in absurd (cc)
     | inr s ↦ valid.bare q (sym s.0 ∙ is)
