@@ -4,7 +4,8 @@ use Rattle.tree_fs.specs.declared.op.Op.TheVariants.{Create}
 use Rattle.tree_fs.specs.declared.place.Place.{Place}
 use Rattle.tree_fs.specs.Spot.{Spot, spot_of}
 use Rattle.tree_fs.specs.Disk.{Disk, Value, none, file, MayHold, NothingPending, IsValid, Image, put, synced, filled, made_firm, renamed, after}
-use Rattle.tree_fs.proofs.Ops.{made_firm-places, same_places-hold, firm-made_keeps, bytes-made_firm, firm-filled_other, bytes-filled_other, MayHold-created, firm-created_other, bytes-created_other, MayHold-renamed, renamed-files}
+use Rattle.tree_fs.proofs.Ops.{MayHold-created, firm-created_other, bytes-created_other, MayHold-renamed, renamed-files}
+use Rattle.tree_fs.proofs.Files.{made_firm-places, same_places-hold, firm-made_keeps, bytes-made_firm, firm-filled_other, bytes-filled_other}
 use Rattle.tree_fs.proofs.Spots.{same_or_other}
 use Rattle.tree_fs.proofs.Disks.{MayHold-put_other, MayHold-put_at, MayHold-synced, MayHold-settled}
 

@@ -1,14 +1,13 @@
 -- What each step does, in the words of a place.
-use Rattle.std.proofs.Common.{◌≡◌, ◌≢◌, ◌⊎◌, ℕ, ◌+◌, ◌<◌, ◌==◌, Bool, true, false, List, [], refl, sym, ap, ◌∙◌, inl, inr, subst, arith}
+use Rattle.std.proofs.Common.{◌≡◌, ◌≢◌, ◌⊎◌, ℕ, ◌+◌, ◌<◌, ◌==◌, Bool, true, false, [], refl, sym, ap, ◌∙◌, inl, inr, subst, arith}
 use Rattle.std.proofs.lemmas.Bool.Decides.{Decides-eqb}
 use Rattle.tree_fs.specs.declared.op.Op.{Op}
 use Rattle.tree_fs.specs.declared.op.Op.TheVariants.{Link, Unlink, Rename, Create, Fill, MakeFolder, RemoveFolder, SyncFolder, SyncFile}
 use Rattle.tree_fs.specs.declared.place.Place.{Place}
-use Rattle.tree_fs.specs.Spot.{Spot, spot_of, root_spot, parent, is_entry, below}
-use Rattle.tree_fs.specs.Disk.{Disk, Value, none, file, odd, IsIn, MayHold, IsFile, IsValid, set_number, put, synced, is_one_file, filled, made_firm, created, renamed, after}
-use Rattle.tree_fs.specs.Calls.{CanLink, CanUnlink, CanRename, CanPut, CanMakeFolder, CanRemoveFolder}
-use Rattle.tree_fs.proofs.Spots.{root_or_below}
-use Rattle.tree_fs.proofs.Functions.{set_at_tells, set_at-same, set_at-other, set_number_tells, set_number-same, set_number-other}
+use Rattle.tree_fs.specs.Spot.{Spot, spot_of, is_entry}
+use Rattle.tree_fs.specs.Disk.{Disk, Value, none, file, odd, MayHold, IsFile, IsValid, set_number, put, synced, is_one_file, renamed, after}
+use Rattle.tree_fs.specs.Calls.{CanLink, CanUnlink, CanRename, CanPut}
+use Rattle.tree_fs.proofs.Functions.{set_at-same, set_at-other, set_number-same, set_number-other}
 use Rattle.tree_fs.proofs.Disks.{now-put_at, now-put_other, MayHold-put, MayHold-put_keeps, MayHold-synced, before-synced_in, file-no_folder, valid-put, valid-synced, file-number}
 
 abbrev pub is_done : Op → Bool
@@ -211,141 +210,6 @@ valid-created d at true valid can = valid-put (numbered d) (spot_of at) (file d.
   number = λ n e. let is : d.fresh ≡ n = cc in omega arith;
 })
 
--- Fill and SyncFile
-
--- the places stay as they are
-pub record SamePlaces (d e : Disk) : Type 0 where
-  pub folders : e.folders ≡ d.folders
-  pub now : e.now ≡ d.now
-  pub before : e.before ≡ d.before
-  pub fresh : e.fresh ≡ d.fresh
-
-pub filled-places : (d : Disk) (v : Value) (bytes : List ℕ) → SamePlaces d (filled d v bytes)
-filled-places d none bytes = record { folders = refl; now = refl; before = refl; fresh = refl }
-filled-places d odd bytes = record { folders = refl; now = refl; before = refl; fresh = refl }
-filled-places d (file n) bytes = record { folders = refl; now = refl; before = refl; fresh = refl }
-
-pub made_firm-places : (d : Disk) (v : Value) → SamePlaces d (made_firm d v)
-made_firm-places d none = record { folders = refl; now = refl; before = refl; fresh = refl }
-made_firm-places d odd = record { folders = refl; now = refl; before = refl; fresh = refl }
-made_firm-places d (file n) = record { folders = refl; now = refl; before = refl; fresh = refl }
-
-pub filled-file : (d : Disk) (at : Place) (bytes : List ℕ) (n : ℕ) → d.now (spot_of at) ≡ file n → after d (Fill at bytes true) ≡ filled d (file n) bytes
-filled-file d at bytes n e = ap (λ v. filled d v bytes) e
-
-pub made_firm-file : (d : Disk) (at : Place) (n : ℕ) → d.now (spot_of at) ≡ file n → after d (SyncFile at true) ≡ made_firm d (file n)
-made_firm-file d at n e = ap (made_firm d) e
-
-pub bytes-filled : (d : Disk) (n : ℕ) (bytes : List ℕ) → (filled d (file n) bytes).bytes n ≡ bytes
-bytes-filled d n bytes = set_number-same d.bytes n bytes
-
-pub bytes-filled_other : (d : Disk) (n k : ℕ) (bytes : List ℕ) → k ≢ n → (filled d (file n) bytes).bytes k ≡ d.bytes k
-bytes-filled_other d n k bytes ne = set_number-other d.bytes n bytes k ne
-
-pub firm-filled : (d : Disk) (n : ℕ) (bytes : List ℕ) → (filled d (file n) bytes).firm n ≡ false
-firm-filled d n bytes = set_number-same d.firm n false
-
-pub firm-filled_other : (d : Disk) (n k : ℕ) (bytes : List ℕ) → k ≢ n → (filled d (file n) bytes).firm k ≡ d.firm k
-firm-filled_other d n k bytes ne = set_number-other d.firm n false k ne
-
-pub bytes-made_firm : (d : Disk) (v : Value) → (made_firm d v).bytes ≡ d.bytes
-bytes-made_firm d none = refl
-bytes-made_firm d odd = refl
-bytes-made_firm d (file n) = refl
-
-pub firm-made : (d : Disk) (n : ℕ) → (made_firm d (file n)).firm n ≡ true
-firm-made d n = set_number-same d.firm n true
-
-pub firm-made_other : (d : Disk) (n k : ℕ) → k ≢ n → (made_firm d (file n)).firm k ≡ d.firm k
-firm-made_other d n k ne = set_number-other d.firm n true k ne
-
--- what was firm stays firm
-pub firm-made_keeps : (d : Disk) (v : Value) (k : ℕ) → d.firm k ≡ true → (made_firm d v).firm k ≡ true
-firm-made_keeps d none k e = e
-firm-made_keeps d odd k e = e
-firm-made_keeps d (file n) k e = elim (set_number_tells d.firm n true k) [ inl s ↦ s.0 | inr s ↦ s.0 ∙ e ]
-
-pub same_places-hold : (d e : Disk) (q : Spot) (v : Value) → SamePlaces d e → MayHold e q v → MayHold d q v
-same_places-hold d e q v same (inl is) = inl (is ∙ ap (λ f. f q) same.now)
-same_places-hold d e q v same (inr h) = inr (subst (λ f. IsIn v (f q)) same.before h)
-
-pub valid-same_places : (d e : Disk) → SamePlaces d e → IsValid d → IsValid e
-valid-same_places d e same valid = record {
-  roots = λ r. ap (λ f. f (root_spot r)) same.folders ∙ valid.roots r;
-  nested = λ q is. ap (λ f. f (parent q)) same.folders ∙ valid.nested q (ap (λ f. f q) (sym same.folders) ∙ is);
-  parents = λ q v h ne. ap (λ f. f (parent q)) same.folders ∙ valid.parents q v (same_places-hold d e q v same h) ne;
-  bare = λ q is. ap (λ f. f q) same.now ∙ valid.bare q (ap (λ f. f q) (sym same.folders) ∙ is);
-  numbers = λ q n h. subst (λ k. n < k) (sym same.fresh) (valid.numbers q n (same_places-hold d e q (file n) same h));
-}
-
-pub valid-filled : (d : Disk) (at : Place) (bytes : List ℕ) (done : Bool) → IsValid d → IsValid (after d (Fill at bytes done))
-valid-filled d at bytes false valid = valid
-valid-filled d at bytes true valid = valid-same_places d _ (filled-places d (d.now (spot_of at)) bytes) valid
-
-pub valid-file_synced : (d : Disk) (at : Place) (done : Bool) → IsValid d → IsValid (after d (SyncFile at done))
-valid-file_synced d at false valid = valid
-valid-file_synced d at true valid = valid-same_places d _ (made_firm-places d (d.now (spot_of at))) valid
-
--- MakeFolder and RemoveFolder
-
-pub folders-made : (d : Disk) (at : Place) → (after d (MakeFolder at true)).folders (spot_of at) ≡ true
-folders-made d at = set_at-same d.folders (spot_of at) true
-
-pub folders-made_other : (d : Disk) (at : Place) (q : Spot) → q ≢ spot_of at → (after d (MakeFolder at true)).folders q ≡ d.folders q
-folders-made_other d at q ne = set_at-other d.folders (spot_of at) true q ne
-
--- a folder stays one
-pub folders-made_keeps : (d : Disk) (at : Place) (q : Spot) → d.folders q ≡ true → (after d (MakeFolder at true)).folders q ≡ true
-folders-made_keeps d at q e = elim (set_at_tells d.folders (spot_of at) true q) [ inl s ↦ s.0 | inr s ↦ s.0 ∙ e ]
-
-pub folders-removed : (d : Disk) (at : Place) → (after d (RemoveFolder at true)).folders (spot_of at) ≡ false
-folders-removed d at = set_at-same d.folders (spot_of at) false
-
-pub folders-removed_other : (d : Disk) (at : Place) (q : Spot) → q ≢ spot_of at → (after d (RemoveFolder at true)).folders q ≡ d.folders q
-folders-removed_other d at q ne = set_at-other d.folders (spot_of at) false q ne
-
-pub valid-folder_made : (d : Disk) (at : Place) (done : Bool) → IsValid d → CanMakeFolder d (spot_of at) → IsValid (after d (MakeFolder at done))
-valid-folder_made d at false valid can = valid
-valid-folder_made d at true valid can = record {
-  roots = λ r. folders-made_keeps d at (root_spot r) (valid.roots r);
-  nested = λ q is. folders-made_keeps d at (parent q) (elim (set_at_tells d.folders (spot_of at) true q) [
-    | inl s ↦ subst (λ x. d.folders (parent x) ≡ true) (sym s.1) can.in_folder
-    | inr s ↦ valid.nested q (sym s.0 ∙ is)
-  ]);
-  parents = λ q v h ne. folders-made_keeps d at (parent q) (valid.parents q v h ne);
-  bare = λ q is. elim (set_at_tells d.folders (spot_of at) true q) [
-    | inl s ↦ ap d.now s.1 ∙ can.absent
-    | inr s ↦ valid.bare q (sym s.0 ∙ is)
-  ];
-  numbers = valid.numbers;
-}
-
--- the parent of what is no entry of the folder is another folder
-parent-not : (d : Disk) (at q : Spot) → at.names ≢ [] → ((n : List ℕ) → q ≢ below at n) → parent q ≢ at
-parent-not d at q some apart e = elim (root_or_below q) [
-  | inl root ↦ some (ap (λ s. s.names) (sym (sym root.0 ∙ sym root.1 ∙ e)))
-  | inr named ↦ apart named.0 (named.1 ∙ ap (λ f. below f named.0) e)
-]
-
-pub valid-folder_removed : (d : Disk) (at : Place) (done : Bool) → IsValid d → CanRemoveFolder d (spot_of at) → IsValid (after d (RemoveFolder at done))
-valid-folder_removed d at false valid can = valid
-valid-folder_removed d at true valid can = record {
-  roots = λ r. folders-removed_other d at (root_spot r) (λ e. can.not_root (ap (λ s. s.names) (sym e))) ∙ valid.roots r;
-  nested = λ q is. elim (set_at_tells d.folders (spot_of at) false q) [
-    | inl s ↦ let h : true ≡ false = sym is ∙ s.0 in absurd (cc)
-    | inr s ↦
-        let there : d.folders q ≡ true = sym s.0 ∙ is in
-        folders-removed_other d at (parent q) (parent-not d (spot_of at) q can.not_root (λ n e. let h : true ≡ false = sym there ∙ ap d.folders e ∙ can.no_folders n in cc)) ∙ valid.nested q there
-  ];
-  parents = λ q v h ne.
-      folders-removed_other d at (parent q) (parent-not d (spot_of at) q can.not_root (λ n e. ne (can.empty n v (subst (λ x. MayHold d x v) e h)))) ∙ valid.parents q v h ne;
-  bare = λ q is. elim (set_at_tells d.folders (spot_of at) false q) [
-    | inl s ↦ let h : true ≡ false = sym is ∙ s.0 in absurd (cc)
-    | inr s ↦ valid.bare q (sym s.0 ∙ is)
-  ];
-  numbers = valid.numbers;
-}
-
 -- SyncFolder
 
 pub before-synced : (d : Disk) (at : Place) (q : Spot) → is_entry (spot_of at) q ≡ true → (after d (SyncFolder at true)).before q ≡ []
@@ -372,37 +236,3 @@ within-put d p v q w h = MayHold-put_keeps d p q v w h
 
 pub within-synced : (d : Disk) (folder : Spot) → HoldsWithin (synced d folder) d
 within-synced d folder q v h = MayHold-synced d folder q v h
-
-pub within-same_places : (d e : Disk) → SamePlaces d e → HoldsWithin e d
-within-same_places d e same q v h = same_places-hold d e q v same h
-
-pub within-renamed : (d : Disk) (from to : Spot) → HoldsWithin d (renamed d from to)
-within-renamed d from to = elim (is_one_file_tells (d.now from) (d.now to)) [
-  | inl s ↦ subst (HoldsWithin d) (sym (renamed-one d from to s.0)) (within-same d)
-  | inr s ↦ subst (HoldsWithin d) (sym (renamed-apart d from to s.0)) (λ q v h. within-put (put d to (d.now from)) from none q v (within-put d to (d.now from) q v h))
-]
-
-within-created : (d : Disk) (at : Spot) → HoldsWithin d (created d at)
-unfolding numbered
-within-created d at q v h = MayHold-put_keeps (numbered d) at q (file d.fresh) v h
-
--- each step only adds to what places may hold, or only takes from it
-pub grows_or_shrinks : (d : Disk) (op : Op) → HoldsWithin d (after d op) ⊎ HoldsWithin (after d op) d
-grows_or_shrinks d (Link from to true) = inl (within-put d (spot_of to) (d.now (spot_of from)))
-grows_or_shrinks d (Unlink at true) = inl (within-put d (spot_of at) none)
-grows_or_shrinks d (Rename from to true) = inl (within-renamed d (spot_of from) (spot_of to))
-grows_or_shrinks d (Create at true) = inl (within-created d (spot_of at))
-grows_or_shrinks d (Fill at bytes true) = inr (within-same_places d _ (filled-places d (d.now (spot_of at)) bytes))
-grows_or_shrinks d (MakeFolder at true) = inl (λ q v h. h)
-grows_or_shrinks d (RemoveFolder at true) = inl (λ q v h. h)
-grows_or_shrinks d (SyncFolder at true) = inr (within-synced d (spot_of at))
-grows_or_shrinks d (SyncFile at true) = inr (within-same_places d _ (made_firm-places d (d.now (spot_of at))))
-grows_or_shrinks d (Link from to false) = inl (within-same d)
-grows_or_shrinks d (Unlink at false) = inl (within-same d)
-grows_or_shrinks d (Rename from to false) = inl (within-same d)
-grows_or_shrinks d (Create at false) = inl (within-same d)
-grows_or_shrinks d (Fill at bytes false) = inl (within-same d)
-grows_or_shrinks d (MakeFolder at false) = inl (within-same d)
-grows_or_shrinks d (RemoveFolder at false) = inl (within-same d)
-grows_or_shrinks d (SyncFolder at false) = inl (within-same d)
-grows_or_shrinks d (SyncFile at false) = inl (within-same d)
