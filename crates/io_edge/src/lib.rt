@@ -2,12 +2,14 @@
 #![tactic(auto)]
 
 mod error;
+mod lines;
 mod mem;
 mod sink;
 mod source;
 mod std_io;
 
 pub use error::IoError;
+pub use lines::{Line, LineError, LineReader, MOST_LINE_BYTES, MOST_LINES};
 pub use mem::{MemSink, MemSource};
 pub use sink::{Sink, push_all};
 pub use source::Source;
