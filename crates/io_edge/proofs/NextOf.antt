@@ -8,7 +8,7 @@ use Rattle.io_edge.specs.declared.lines.LineError.{LineError}
 use Rattle.io_edge.specs.declared.lines.LineError.TheVariants.{TooLong, TooMany, NotText, Failed, Memory}
 use Rattle.io_edge.specs.Lines.{is_lf, has_lf, line_bytes, through_line, line_text, without_end}
 use Rattle.io_edge.specs.Reader.{LineText, next_of, IsUnlessBroken}
-use Rattle.io_edge.proofs.FirstLine.{end_of, end-lt, end-whole, through-whole}
+use Rattle.io_edge.proofs.FirstLine.{end_of, end-lt, end-whole, end-goes_on, through-whole, through-goes_on, length-line_bytes}
 
 pub next_of-too_many : (given : ℕ) (ahead : List ℕ) → ahead ≢ [] → 10000 ≤ given → next_of given ahead ≡ Err TooMany
 next_of-too_many given [] some most = absurd (some refl)
@@ -75,6 +75,24 @@ without_end-by bytes false is =
 
 pub without_end-through : (bytes : List ℕ) → without_end (through_line bytes) ≡ line_text bytes
 without_end-through bytes = without_end-by bytes (has_lf bytes) refl
+
+-- a text is no longer than its line
+
+strip-short_by : (line : List ℕ) (ends : Bool) → length (cond ends (take (length line - 1) line) line) ≤ length line
+strip-short_by line true = omega (arith, length-take-le (length line - 1) line (omega arith))
+strip-short_by line false = omega arith
+
+strip-short : (line : List ℕ) → length (strip_carriage_return line) ≤ length line
+strip-short line = strip-short_by line (get_or line (length line - 1) 0 == 13)
+
+line_text-short : (bytes : List ℕ) (some : Bool) → length (cond some (strip_carriage_return (line_bytes bytes)) (line_bytes bytes)) ≤ length (line_bytes bytes)
+line_text-short bytes true = strip-short (line_bytes bytes)
+line_text-short bytes false = omega arith
+
+pub short_text : (most : ℕ) (line held line' : List ℕ) → has_lf line ≡ false → line' ≡ line ++ through_line held → length line + end_of held ≤ most → length (without_end line') ≤ most
+short_text most line held line' none moved short =
+    let is : without_end line' ≡ line_text (line ++ held) = ap without_end (moved ∙ sym (through-goes_on line held none)) ∙ without_end-through (line ++ held) in
+    omega (arith, ap length is, line_text-short (line ++ held) (has_lf (line ++ held)), length-line_bytes (line ++ held), end-goes_on line held none)
 
 -- the answers of a reader, where `ahead` is what it had to read, and `here` the same bytes at hand after the first pull
 

@@ -34,6 +34,11 @@ next_of given (b ∷ bs) =
     else if nat_lt MOST_LINE_BYTES (length (line_bytes (b ∷ bs))) then Err (TooLong (given + 1))
     else if is_utf8 (line_text (b ∷ bs)) then Ok (Some (record { number = given + 1; text = line_text (b ∷ bs) })) else Err (NotText (given + 1))
 
+-- the text of the line that an answer gives
+abbrev pub texts_of : Option LineText → List (List ℕ)
+texts_of None = []
+texts_of (Some line) = line.text ∷ []
+
 -- this answer, where the source and memory didn't give out
 abbrev pub IsUnlessBroken : Result (Option LineText) LineError → Result (Option LineText) LineError → Type 0
 IsUnlessBroken (Err Failed) answer = Unit {0}

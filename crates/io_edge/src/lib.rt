@@ -14,3 +14,6 @@ pub use mem::{MemSink, MemSource};
 pub use sink::{Sink, push_all};
 pub use source::Source;
 pub use std_io::{StdSink, StdSource};
+
+#[cfg(test)]
+mod tests;

@@ -3,12 +3,12 @@ ghost use Rattle.std.specs.Prelude.{◌≡◌, ◌≢◌, ◌+◌, ◌<◌, ◌�
 ghost use Rattle.std.specs.List.{position_or_len};
 ghost use Rattle.std.specs.Str.{is_utf8};
 ghost use Rattle.std.specs.String.{string_bytes};
-ghost use Rattle.std.specs.Str.Lines.{strip_carriage_return};
+ghost use Rattle.std.specs.Str.Lines.{strip_carriage_return, lines};
 ghost use Rattle.std.specs.Result.{result_err};
 ghost use Rattle.fault_count.specs.Rose.{Rose};
 ghost use Rattle.io_edge.specs.Cause.{HasCause};
 ghost use Rattle.io_edge.specs.Lines.{is_lf, has_lf, line_bytes, through_line, after_line, without_end};
-ghost use Rattle.io_edge.specs.Reader.{next_of, line_error, IsUnlessBroken, HasLineCause};
+ghost use Rattle.io_edge.specs.Reader.{next_of, texts_of, line_error, IsUnlessBroken, HasLineCause};
 ghost use Rattle.io_edge.specs.declared.lines.LineError.TheVariants.{Memory};
 
 use crate::{IoError, Source};
@@ -170,6 +170,7 @@ impl Gathered {
         requires some { self.old.held ≢ [] }
         ensures line { S.tells → OnOk result (self.new.line ≡ through_line (self.old.held ++ S.left source.old)) }
         ensures rest { S.tells → OnOk result (self.new.held ++ S.left source.new ≡ after_line (self.old.held ++ S.left source.old)) }
+        ensures text { OnOk result (length (without_end self.new.line) ≤ MOST_LINE_BYTES) }
         ensures short { S.tells → OnOk result (length (line_bytes (self.old.held ++ S.left source.old)) ≤ MOST_LINE_BYTES) }
         ensures err { S.tells → IfErr result (λ e. e ≢ LineError.Failed → e ≢ LineError.Memory
             → (e ≡ LineError.TooLong number) × (MOST_LINE_BYTES < length (line_bytes (self.old.held ++ S.left source.old)))) }
@@ -291,7 +292,10 @@ impl LineReader {
         ensures answer { S.tells → self.old.stuck ≡ None
             → IsUnlessBroken result (next_of self.old.given (self.old.held ++ S.left source.old)) }
         ensures rest { S.tells → OnOk result (self.new.held ++ S.left source.new ≡ after_line (self.old.held ++ S.left source.old)) }
+        ensures lines { S.tells → IfOk result (λ line. lines (self.old.held ++ S.left source.old) ≡ texts_of line ++ lines (self.new.held ++ S.left source.new)) }
         ensures number { IfOk result (λ line. IfSome line (λ line. line.number ≡ self.old.given + 1)) }
+        ensures within { IfOk result (λ line. IfSome line (λ line. line.number ≤ MOST_LINES)) }
+        ensures short { IfOk result (λ line. IfSome line (λ line. length line.text ≤ MOST_LINE_BYTES)) }
         ensures given { IfOk result (λ line. self.new.given ≡ (if is_some line then self.old.given + 1 else self.old.given)) }
         ensures stuck { self.new.stuck ≡ result_err result }
         ensures again { IfSome self.old.stuck (λ e. result ≡ Err e) }
@@ -315,7 +319,10 @@ impl LineReader {
     fn read_line<S: Source>(&mut self, source: &mut S) -> Result<Option<Line>, LineError>
         ensures answer { S.tells → IsUnlessBroken result (next_of self.old.given (self.old.held ++ S.left source.old)) }
         ensures rest { S.tells → OnOk result (self.new.held ++ S.left source.new ≡ after_line (self.old.held ++ S.left source.old)) }
+        ensures lines { S.tells → IfOk result (λ line. lines (self.old.held ++ S.left source.old) ≡ texts_of line ++ lines (self.new.held ++ S.left source.new)) }
         ensures number { IfOk result (λ line. IfSome line (λ line. line.number ≡ self.old.given + 1)) }
+        ensures within { IfOk result (λ line. IfSome line (λ line. line.number ≤ MOST_LINES)) }
+        ensures short { IfOk result (λ line. IfSome line (λ line. length line.text ≤ MOST_LINE_BYTES)) }
         ensures given { IfOk result (λ line. self.new.given ≡ (if is_some line then self.old.given + 1 else self.old.given)) }
         ensures stuck { self.new.stuck ≡ self.old.stuck }
         ensures quiet { has_lf self.old.held ≡ true → source.new ≡ source.old }

@@ -2,6 +2,7 @@ use Rattle.std.proofs.Common.{◌∙◌, ◌++◌, sym, ap, arith, ◌≡◌, tr
 use Rattle.std.proofs.lemmas.Result.{err_from_is_err_and}
 use Rattle.io_edge.specs.Lines.{has_lf, through_line}
 use Rattle.io_edge.proofs.Gathering.{line_with_lf, rest_after_lf, length_with_lf, length_at_least, still_no_lf, ahead_of_more, line_at_end, through_at_end, after_at_end, length_at_end}
+use Rattle.io_edge.proofs.NextOf.{short_text}
 use Rattle.io_edge.proofs.lines.Gathered.gather.Given.{Over}
 use Rattle.io_edge.proofs.lines.Gathered.gather.Goals as goal
 
@@ -21,6 +22,10 @@ returns-then-branch-clause-rest g c = λ told.
 pub returns-then-branch-clause-short : goal.returns-then-branch-clause-short
 returns-then-branch-clause-short g c = λ told.
     omega (arith, c.in_ok-move_line.ensures.short, length_with_lf _ c.loop-self.self.line c.loop-self.self.held _ (c.loop-self.invariant.ahead told) c.loop-self.invariant.no_lf (sym c.in_ok-move_line.ensures.ended ∙ c.if-branch.true))
+
+pub returns-then-branch-clause-text : goal.returns-then-branch-clause-text
+returns-then-branch-clause-text g c =
+    short_text 4096 c.loop-self.self.line c.loop-self.self.held _ c.loop-self.invariant.no_lf c.in_ok-move_line.ensures.line c.in_ok-move_line.ensures.short
 
 pub fill-requires : goal.fill-requires
 fill-requires g c =
@@ -52,6 +57,10 @@ returns-then-not-branch-clause-rest g c = λ told.
 pub returns-then-not-branch-clause-short : goal.returns-then-not-branch-clause-short
 returns-then-not-branch-clause-short g c = λ told.
     omega (arith, c.in_ok-move_line.ensures.short, length_at_end _ c.loop-self.self.line c.loop-self.self.held _ (all_gathered g c told) (none_gathered g c) (no_lf_held g c) (moved g c))
+
+pub returns-then-not-branch-clause-text : goal.returns-then-not-branch-clause-text
+returns-then-not-branch-clause-text g c =
+    short_text 4096 c.loop-self.self.line c.loop-self.self.held _ c.loop-self.invariant.no_lf (moved g c) c.in_ok-move_line.ensures.short
 
 pub loop-self-preserved : goal.loop-self-preserved
 loop-self-preserved g c =
