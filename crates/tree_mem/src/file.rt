@@ -1,0 +1,38 @@
+// The files of a disk.
+ghost use Rattle.std.specs.Prelude.{◌≡◌, true, IfOk};
+
+use std::alloc::{AllocError, Global};
+use std::marker::Model;
+
+/// A file: its bytes, and whether they stay as they are in a stop.
+#[derive(Drop)]
+pub(crate) struct MemFile {
+    bytes: Vec<u8>,
+    firm: bool,
+}
+
+impl Model for MemFile {
+    ghost use Rattle.tree_mem.specs.FileData.{FileData};
+
+    ghost Value = { FileData };
+
+    ghost view = { λ a. record { bytes = a.bytes.items; firm = a.firm } };
+}
+
+impl MemFile {
+    // A file whose bytes stay.
+    pub(crate) fn firm(bytes: Vec<u8>) -> MemFile
+        ensures { result ≡ record { bytes = bytes.items; firm = true } }
+    {
+        MemFile { bytes, firm: true }
+    }
+
+    pub(crate) fn copy(&self, alloc: Global) -> Result<MemFile, AllocError>
+        ensures { IfOk result (λ file. file ≡ self.now) }
+    {
+        Ok(MemFile {
+            bytes: self.bytes.clone()?,
+            firm: self.firm,
+        })
+    }
+}

@@ -1,0 +1,6 @@
+// The tree.
+/// x
+#[derive(Drop)]
+pub struct MemTree {
+    count: u64,
+}
