@@ -77,7 +77,7 @@ unfolding folder_names
 cut_nowhere text held h =
     let one : names_of text ≡ text ∷ [] = names_of-one text (no_slash text h) in
     let good : (is_name_within 254 text && true) ≡ true = subst (λ l. list_all (is_name_within 254) l ≡ true) one (IsWithin-from_fault held_limits text held).good in
-    record { names = one ; good = IsName-held text (both (is_name_within 254 text) true good).0 }
+    record { names = one; good = IsName-held text (both (is_name_within 254 text) true good).0 }
 
 -- a held path's text is that of a folder
 pub folder_names-held : (text : List ℕ) → IsHeldPath text → folder_names text ≡ names_of text

@@ -37,7 +37,7 @@ names_eq-Decides : (xs ys : List (List ℕ)) → Decides (pointwise bytes_eq xs 
 names_eq-Decides xs ys = slice_eq-Decides bytes_eq-Decides xs ys (pointwise bytes_eq xs ys) refl
 
 -- the test by names is the test by text
-test_same : (f g : List ℕ) → pointwise bytes_eq (folder_names f) (folder_names g) ≡ is_eq (slice_cmp nat_cmp f g)
+pub test_same : (f g : List ℕ) → pointwise bytes_eq (folder_names f) (folder_names g) ≡ is_eq (slice_cmp nat_cmp f g)
 test_same f g =
     same_from_decides {P = f ≡ g} _ _ (Decides-like _ (same_folder f g) (ap folder_names) (names_eq-Decides (folder_names f) (folder_names g))) (bytes_eq-Decides f g)
     ∙ sym (is_eq-slice_cmp f g)
@@ -76,9 +76,9 @@ entries_at-other : (m n : Folders) (f : List ℕ) (w : Option Entries) → IsUpd
 unfolding KeepsOthers
 entries_at-other m n f w u xs ne =
     u.3 (λ k. pointwise bytes_eq xs (folder_names (string_bytes k)))
-      (λ x y t. let at : xs ≡ folder_names (string_bytes x) = (names_eq-Decides xs (folder_names (string_bytes x))).0 t in ap (λ l. pointwise bytes_eq l (folder_names (string_bytes y))) at ∙ test_same (string_bytes x) (string_bytes y))
-      (λ k t. let at : f ≡ string_bytes k = (bytes_eq-Decides f (string_bytes k)).0 (sym (is_eq-slice_cmp f (string_bytes k)) ∙ t) in
-      false_from_ne_true _ (λ s. ne ((names_eq-Decides xs (folder_names (string_bytes k))).0 s ∙ ap folder_names (sym at))))
+    (λ x y t. let at : xs ≡ folder_names (string_bytes x) = (names_eq-Decides xs (folder_names (string_bytes x))).0 t in ap (λ l. pointwise bytes_eq l (folder_names (string_bytes y))) at ∙ test_same (string_bytes x) (string_bytes y))
+    (λ k t. let at : f ≡ string_bytes k = (bytes_eq-Decides f (string_bytes k)).0 (sym (is_eq-slice_cmp f (string_bytes k)) ∙ t) in
+    false_from_ne_true _ (λ s. ne ((names_eq-Decides xs (folder_names (string_bytes k))).0 s ∙ ap folder_names (sym at))))
 
 -- where the names are cut at the folder, or not
 cut_there : (xs : List (List ℕ)) (f : List ℕ) → (xs ≡ folder_names f) ⊎ (xs ≢ folder_names f)
@@ -97,7 +97,7 @@ after_update m n f w u P here out (y ∷ ys) =
     let x = last_name (y ∷ ys) in
     elim (cut_there xs f) [
       | inl e ↦ subst (λ o. P (y ∷ ys) o) (sym (ap (λ l. entry_in (entries_at n l) x) e ∙ ap (λ o. entry_in o x) (entries_at-text n f ∙ u.1)))
-        (subst (λ l. P l (entry_in w x)) (ap (λ l. l ++ x ∷ []) (sym e) ∙ sym (snoc_of y ys)) (here x))
+          (subst (λ l. P l (entry_in w x)) (ap (λ l. l ++ x ∷ []) (sym e) ∙ sym (snoc_of y ys)) (here x))
       | inr ne ↦ subst (λ o. P (y ∷ ys) o) (sym (ap (λ o. entry_in o x) (entries_at-other m n f w u xs ne))) (out (y ∷ ys))
     ]
 
@@ -107,7 +107,7 @@ pub Sets-from_update : (m n : Folders) (f name : List ℕ) (w : Option Entries) 
 Sets-from_update m n f name w item u here others = record {
   here = item_in-folder n f name ∙ ap (λ o. entry_in o name) u.1 ∙ here;
   others = after_update m n f w u (λ ns o. ns ≢ folder_names f ++ name ∷ [] → o ≡ item_in m ns)
-    (λ x ne. others x (λ e. ne (ap (λ y. folder_names f ++ y ∷ []) e)) ∙ sym (item_in-folder m f x)) (λ ns ne. refl);
+      (λ x ne. others x (λ e. ne (ap (λ y. folder_names f ++ y ∷ []) e)) ∙ sym (item_in-folder m f x)) (λ ns ne. refl);
 }
 
 -- entries that were written as they were
@@ -134,7 +134,7 @@ pub put_first : (m n : Folders) (text f name : List ℕ) (empty new : Entries) (
     → None ≡ get_by_text m f → IsUpdate m n f (Some new) → empty.items.entries ≡ [] → Changes empty.items new.items name item → Sets m n (names_of text) item
 put_first m n text f name empty new item names had u none h =
     subst (λ ns. Sets m n ns item) (sym names) (Sets-from_update m n f name (Some new) item u h.here
-      (λ x ne. h.others x ne ∙ ap (λ es. lookup (is_at (λ k. slice_cmp nat_cmp x (string_bytes k))) es) none ∙ ap (λ o. entry_in o x) had))
+    (λ x ne. h.others x ne ∙ ap (λ es. lookup (is_at (λ k. slice_cmp nat_cmp x (string_bytes k))) es) none ∙ ap (λ o. entry_in o x) had))
 
 pub update_at : (m old n : Folders) (key : String Global) (f : List ℕ) (w : Option Entries) → old ≡ m → string_bytes key ≡ f → Updates string_cmp old n key w → IsUpdate m n f w
 update_at m old n key f w same text u = subst (λ d. IsUpdate d n f w) same (subst (λ t. IsUpdate old n t w) text u)

@@ -20,11 +20,16 @@ impl Model for MemFile {
 }
 
 impl MemFile {
-    // A file whose bytes stay.
-    pub(crate) fn firm(bytes: Vec<u8>) -> MemFile
-        ensures { result ≡ record { bytes = bytes.items; firm = true } }
+    /// A file with these bytes, which stay.
+    pub(crate) fn firm(alloc: Global, bytes: &[u8]) -> Result<MemFile, AllocError>
+        ensures { IfOk result (λ file. file ≡ record { bytes = bytes.now; firm = true }) }
     {
-        MemFile { bytes, firm: true }
+        let mut copy = Vec::new(alloc);
+        copy.extend_from_slice(bytes)?;
+        Ok(MemFile {
+            bytes: copy,
+            firm: true,
+        })
     }
 
     pub(crate) fn copy(&self, alloc: Global) -> Result<MemFile, AllocError>

@@ -5,8 +5,8 @@ mod disk;
 mod entries;
 mod file;
 mod folders;
-mod text;
-
 mod mem_tree;
+mod text;
+mod tree;
 
-pub use mem_tree::MemTree;
+pub use tree::MemTree;

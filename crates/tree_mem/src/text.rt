@@ -2,7 +2,7 @@
 ghost use Rattle.std.specs.Prelude.{◌≡◌, ◌++◌, ◌∷◌, []};
 ghost use Rattle.rel_paths.specs.Names.{names_of, IsHeldPath};
 ghost use Rattle.tree_fs.specs.EntryName.{IsName};
-ghost use Rattle.tree_fs.specs.Spot.{names_below};
+ghost use Rattle.tree_fs.specs.Spot.{names_below, spot_of, is_entry};
 ghost use Rattle.tree_mem.specs.Keys.{folder_names};
 
 use tree_fs::Place;
@@ -26,5 +26,15 @@ pub(crate) fn folder_text(at: &Place) -> &str
     match &at.rel {
         Some(path) => path.text(),
         None => "",
+    }
+}
+
+// Whether a place is an entry of the folder.
+pub(crate) fn lies_in(at: &Place, folder: &Place) -> bool
+    ensures { result ≡ is_entry (spot_of folder.now) (spot_of at.now) }
+{
+    match &at.rel {
+        Some(path) => { at.root == folder.root && split_last(path.text()).0 == folder_text(folder) }
+        None => false,
     }
 }
