@@ -5,3 +5,5 @@ pub mod Entering
 pub mod Parts
 pub mod Listed
 pub mod Valid
+pub mod Clones
+pub mod Told

@@ -21,7 +21,8 @@ use Rattle.tree_mem.specs.declared.disk.MemDisk.{MemDisk}
 use Rattle.tree_mem.specs.declared.disk.Past.{Past}
 use Rattle.tree_mem.specs.FileData.{FileData}
 use Rattle.tree_mem.specs.Disks.{item_of, is_folder, value_in, held_before, file_at, disk_in, ItemSet, SameParts}
-use Rattle.tree_mem.specs.Changed.{with_file, with_link, with_folder, CanAdd}
+use Rattle.tree_fs.specs.Calls.{CanPut}
+use Rattle.tree_mem.specs.Changed.{with_file, with_link, with_folder}
 
 -- the same parts are the same disk
 pub disk_same : (d e : MemDisk) → SameParts d e → disk_in e ≡ disk_in d

@@ -1,5 +1,5 @@
 use Rattle.std.specs.Prelude.{◌≡◌, ℕ, ◌+◌, Bool, true, false, not, List, []}
-use Rattle.tree_fs.specs.Spot.{Spot, has_some, parent}
+use Rattle.tree_fs.specs.Spot.{Spot, has_some}
 use Rattle.tree_fs.specs.Disk.{Disk, none, file, set_at, set_number}
 
 -- a disk with the three roots and nothing else
@@ -29,9 +29,3 @@ with_link d from to = record d { now = set_at d.now to (d.now from) }
 -- the disk with one more folder
 abbrev pub with_folder : Disk → Spot → Disk
 with_folder d at = record d { folders = set_at d.folders at true }
-
--- where something new can be put
-pub record CanAdd (d : Disk) (at : Spot) : Type 0 where
-  pub absent : d.now at ≡ none
-  pub no_folder : d.folders at ≡ false
-  pub in_folder : d.folders (parent at) ≡ true

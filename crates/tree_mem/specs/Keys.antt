@@ -27,3 +27,6 @@ AreNames es = list_all (λ e. is_entry_name (string_bytes e.0)) es ≡ true
 pub record Changes {X : Type 0} (m n : BTreeMap (String Global) X) (name : List ℕ) (value : Option X) : Type 0 where
   pub here : get_by_text n name ≡ value
   pub others : (other : List ℕ) → other ≢ name → get_by_text n other ≡ get_by_text m other
+
+abbrev pub SameTexts : {X : Type 0} → BTreeMap (String Global) X → BTreeMap (String Global) X → Type 0
+SameTexts m n = (name : List ℕ) → get_by_text n name ≡ get_by_text m name

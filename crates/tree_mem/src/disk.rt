@@ -2,14 +2,14 @@
 ghost use Rattle.std.specs.Prelude.{◌≡◌, false, Some, OnOk, OnErr, IfOk};
 ghost use Rattle.tree_fs.specs.Spot.{spot_of};
 ghost use Rattle.tree_fs.specs.Disk.{kind_of, IsFile, put, synced, file};
-ghost use Rattle.tree_fs.specs.Calls.{CanLink};
+ghost use Rattle.tree_fs.specs.Calls.{CanLink, CanPut};
 ghost use Rattle.tree_fs.specs.Listing.{IsListing};
 ghost use Rattle.tree_mem.specs.Disks.{disk_in, item_of, folders_of, ItemSet, SameParts};
-ghost use Rattle.tree_mem.specs.Changed.{empty_disk, with_file, with_link, with_folder, CanAdd};
+ghost use Rattle.tree_mem.specs.Changed.{empty_disk, with_file, with_link, with_folder};
 
 use crate::entries::Item;
 use crate::file::MemFile;
-use crate::folders::{Folders, item_at, put_item};
+use crate::folders::{Folders, copy_folders, item_at, put_item};
 use crate::text::{folder_text, lies_in};
 use std::alloc::{AllocError, Global};
 use std::collections::BTreeMap;
@@ -32,6 +32,17 @@ pub(crate) struct MemDisk {
 pub(crate) struct Past {
     at: Place,
     item: Option<Item>,
+}
+
+impl Clone for Past {
+    ghost is_clone = { λ a b. b ≡ a };
+
+    fn clone(&self) -> Result<Past, AllocError> {
+        Ok(Past {
+            at: self.at.copy()?,
+            item: self.item,
+        })
+    }
 }
 
 impl MemDisk {
@@ -100,7 +111,7 @@ impl MemDisk {
         at: &Place,
         bytes: &[u8],
     ) -> Result<(), AllocError>
-        requires { CanAdd (disk_in self.old) (spot_of at.now) }
+        requires { CanPut (disk_in self.old) (spot_of at.now) }
         ensures ok { OnOk result (disk_in self.new ≡ with_file (disk_in self.old) (spot_of at.now) bytes.now) }
         ensures err { OnErr result (disk_in self.new ≡ disk_in self.old) }
     {
@@ -132,7 +143,7 @@ impl MemDisk {
         to: &Place,
     ) -> Result<(), AllocError>
         requires source { IsFile (disk_in self.old) (spot_of from.now) }
-        requires target { CanAdd (disk_in self.old) (spot_of to.now) }
+        requires target { CanPut (disk_in self.old) (spot_of to.now) }
         ensures ok { OnOk result (disk_in self.new ≡ with_link (disk_in self.old) (spot_of from.now) (spot_of to.now)) }
         ensures err { OnErr result (disk_in self.new ≡ disk_in self.old) }
     {
@@ -142,7 +153,7 @@ impl MemDisk {
 
     /// Puts a folder there.
     pub(crate) fn add_folder(&mut self, alloc: Global, at: &Place) -> Result<(), AllocError>
-        requires { CanAdd (disk_in self.old) (spot_of at.now) }
+        requires { CanPut (disk_in self.old) (spot_of at.now) }
         ensures ok { OnOk result (disk_in self.new ≡ with_folder (disk_in self.old) (spot_of at.now)) }
         ensures err { OnErr result (disk_in self.new ≡ disk_in self.old) }
     {
@@ -192,5 +203,18 @@ impl MemDisk {
             Some(entries) => entries.list(alloc),
             None => Ok(Vec::new(alloc)),
         }
+    }
+
+    /// The same disk.
+    pub(crate) fn copy(&self) -> Result<MemDisk, AllocError>
+        ensures { IfOk result (λ copy. disk_in copy ≡ disk_in self.now) }
+    {
+        Ok(MemDisk {
+            stage: copy_folders(&self.stage)?,
+            game: copy_folders(&self.game)?,
+            keep: copy_folders(&self.keep)?,
+            files: self.files.clone()?,
+            pending: self.pending.clone()?,
+        })
     }
 }

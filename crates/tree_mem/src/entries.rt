@@ -3,7 +3,7 @@ ghost use Rattle.std.specs.Prelude.{◌≡◌, Some, IfOk, OnOk, OnErr, [], map}
 ghost use Rattle.std.specs.BTreeMap.{get_by_text, IsOrdered};
 ghost use Rattle.std.specs.String.{string_bytes, string_cmp};
 ghost use Rattle.tree_fs.specs.EntryName.{IsName};
-ghost use Rattle.tree_mem.specs.Keys.{AreNames, Changes};
+ghost use Rattle.tree_mem.specs.Keys.{AreNames, Changes, SameTexts};
 ghost use Rattle.tree_mem.specs.Kinds.{item_kind, entry_of};
 
 use rel_paths::PathError;
@@ -20,7 +20,7 @@ pub(crate) enum Item {
 }
 
 /// What lies in a folder, by name.
-#[derive(Clone, Drop)]
+#[derive(Drop)]
 pub(crate) struct Entries {
     items: BTreeMap<String, Item>,
     ghost named: { AreNames items.entries },
@@ -34,6 +34,16 @@ impl Item {
             Item::Folder => Kind::Folder,
             Item::File(_) => Kind::File,
         }
+    }
+}
+
+impl Clone for Entries {
+    ghost is_clone = { λ a b. SameTexts a.items b.items };
+
+    fn clone(&self) -> Result<Entries, AllocError> {
+        Ok(Entries {
+            items: self.items.clone()?,
+        })
     }
 }
 

@@ -31,10 +31,12 @@ impl MemFile {
             firm: true,
         })
     }
+}
 
-    pub(crate) fn copy(&self, alloc: Global) -> Result<MemFile, AllocError>
-        ensures { IfOk result (λ file. file ≡ self.now) }
-    {
+impl Clone for MemFile {
+    ghost is_clone = { λ a b. b ≡ a };
+
+    fn clone(&self) -> Result<MemFile, AllocError> {
         Ok(MemFile {
             bytes: self.bytes.clone()?,
             firm: self.firm,

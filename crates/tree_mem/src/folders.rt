@@ -1,5 +1,5 @@
 // The folders below one root, in an ordered map.
-ghost use Rattle.std.specs.Prelude.{◌≡◌, Some, OnOk, OnErr};
+ghost use Rattle.std.specs.Prelude.{◌≡◌, Some, IfOk, OnOk, OnErr};
 ghost use Rattle.rel_paths.specs.Names.{names_of, IsHeldPath};
 ghost use Rattle.tree_mem.specs.Items.{item_in, Sets, SameItems};
 
@@ -42,4 +42,11 @@ pub(crate) fn put_item(
             Ok(())
         }
     }
+}
+
+/// Folders with the same items.
+pub(crate) fn copy_folders(folders: &Folders) -> Result<Folders, AllocError>
+    ensures { IfOk result (λ copy. SameItems folders.now copy) }
+{
+    folders.clone()
 }
