@@ -90,7 +90,7 @@ def main():
     parser.add_argument("--mods", type=int, default=200)
     words = parser.parse_args()
     program = os.path.abspath(words.program)
-    with tempfile.TemporaryDirectory(prefix="bench_", dir=".") as scratch:
+    with tempfile.TemporaryDirectory(prefix="bench_", dir=os.getcwd()) as scratch:
         empty = os.path.join(scratch, "empty")
         make_world(0, 1, empty)
         _, floor = least_of_runs(program, empty)

@@ -1,7 +1,9 @@
 // The real disk as a tree, which counts what fails.
-ghost use Rattle.std.specs.Prelude.{◌≡◌, true, [], IfOk, IfErr, OnErr};
+ghost use Rattle.std.specs.Prelude.{◌≡◌, true, [], IfOk, IfErr};
+ghost use Rattle.std.specs.IoError.{error_kind};
 ghost use Rattle.tree_fs.specs.Disk.{none};
 ghost use Rattle.tree_fs.specs.Calls.{HasCause};
+ghost use Rattle.tree_host.specs.Found.{error_of};
 
 use crate::real_disk::RealDisk;
 use fault_count::FaultCount;
@@ -38,17 +40,30 @@ impl<R: Files + Clone + Drop> HostTree<R> {
 
 // The answer of a call from what the system answered.
 fn counted<T: Drop>(faults: &mut FaultCount, outcome: io::Result<T>) -> Result<T, TreeError>
-    ensures { HasCause faults.old faults.new result }
+    ensures ok { IfOk outcome (λ value. result ≡ Ok value) }
+    ensures err { IfErr outcome (λ e. result ≡ Err (error_of (error_kind e))) }
+    ensures cause { HasCause faults.old faults.new result }
 {
     // Its bound is what shows that the count never falls.
     let _ = faults.get();
     match outcome {
         Ok(value) => Ok(value),
-        Err(e) if e.kind() == ErrorKind::OutOfMemory => Err(TreeError::Memory),
-        Err(_) => {
-            faults.raise();
-            Err(TreeError::Failed)
-        }
+        Err(e) => match error_of(e.kind()) {
+            TreeError::Failed => {
+                faults.raise();
+                Err(TreeError::Failed)
+            }
+            TreeError::Memory => Err(TreeError::Memory),
+        },
+    }
+}
+
+fn error_of(kind: ErrorKind) -> TreeError
+    ensures { result ≡ error_of kind }
+{
+    match kind {
+        ErrorKind::OutOfMemory => TreeError::Memory,
+        _ => TreeError::Failed,
     }
 }
 

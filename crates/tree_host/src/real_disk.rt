@@ -1,4 +1,8 @@
 // The calls of the system behind the tree's.
+ghost use Rattle.std.specs.Prelude.{◌≡◌, ◌++◌, ◌∷◌, IfOk};
+ghost use Rattle.std.specs.String.{string_bytes};
+ghost use Rattle.tree_fs.specs.Texts.{place_text, root_word};
+
 use crate::found::absent_or_kind;
 use crate::known::KnownFolders;
 use crate::listing::list_folder;
@@ -23,8 +27,9 @@ pub(crate) struct RealDisk<R: Files + Clone + Drop> {
 #[derive(Clone, Copy, PartialEq, Eq)]
 enum Roots {
     Unseen,
-    /// They are there, and one of them was made and isn't settled yet.
+    /// One was made, and isn't settled yet.
     Made,
+    /// All three are there.
     Ready,
 }
 
@@ -99,7 +104,7 @@ impl<R: Files + Clone + Drop> RealDisk<R> {
     }
 
     fn need_root(&mut self, root: Root) -> io::Result<()> {
-        let path = self.path_of(&Place { root, rel: None })?;
+        let path = self.root_path(root)?;
         match fs::metadata(&self.rt, path.as_str()) {
             Ok(found) if found.is_dir() => Ok(()),
             Ok(_) => Err(io::Error::from(ErrorKind::NotADirectory)),
@@ -160,22 +165,32 @@ impl<R: Files + Clone + Drop> RealDisk<R> {
     }
 
     fn is_folder(&self, root: Root, rel: &str) -> io::Result<bool> {
-        let path = self.path_below(root, rel)?;
+        let path = joined(self.root_path(root)?, rel)?;
         let found = fs::symlink_metadata(&self.rt, path.as_str());
         Ok(absent_or_kind(found)? == Kind::Folder)
     }
 
-    fn path_of(&self, at: &Place) -> Result<String, AllocError> {
-        let mut path = self.base.clone()?;
-        path.push('/')?;
-        path.push_str(at.text(self.rt.1)?.as_str())?;
-        Ok(path)
+    fn path_of(&self, at: &Place) -> Result<String, AllocError>
+        ensures { IfOk result (λ path. string_bytes path ≡ string_bytes self.now.base ++ 47 ∷ place_text at.now) }
+    {
+        let root = self.root_path(at.root)?;
+        match &at.rel {
+            None => Ok(root),
+            Some(rel) => joined(root, rel.text()),
+        }
     }
 
-    fn path_below(&self, root: Root, rel: &str) -> Result<String, AllocError> {
-        let mut path = self.path_of(&Place { root, rel: None })?;
-        path.push('/')?;
-        path.push_str(rel)?;
-        Ok(path)
+    fn root_path(&self, root: Root) -> Result<String, AllocError>
+        ensures { IfOk result (λ path. string_bytes path ≡ string_bytes self.now.base ++ 47 ∷ root_word root) }
+    {
+        joined(self.base.clone()?, root.word())
     }
+}
+
+fn joined(mut folder: String, rel: &str) -> Result<String, AllocError>
+    ensures { IfOk result (λ path. string_bytes path ≡ string_bytes folder ++ 47 ∷ rel.now) }
+{
+    folder.push('/')?;
+    folder.push_str(rel)?;
+    Ok(folder)
 }
