@@ -12,6 +12,8 @@ mod lines;
 mod links;
 mod staged;
 mod winners;
+#[cfg(test)]
+mod tests;
 mod words;
 mod limits;
 mod refusal;
