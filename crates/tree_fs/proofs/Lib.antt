@@ -12,3 +12,5 @@ pub mod Stories
 pub mod Moments
 pub mod Texts
 pub mod Parses
+pub mod Listings
+pub mod PlaceSpots
