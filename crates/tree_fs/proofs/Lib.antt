@@ -12,3 +12,4 @@ pub mod Stories
 pub mod Moments
 pub mod Texts
 pub mod Parses
+pub mod Parts
