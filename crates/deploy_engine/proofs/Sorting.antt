@@ -12,7 +12,7 @@ use Rattle.tree_fs.specs.declared.name.Entry.{Entry}
 use Rattle.deploy_engine.specs.declared.staged.SortedOut.{SortedOut}
 use Rattle.deploy_engine.specs.Refusals.{IsUsable}
 use Rattle.deploy_engine.specs.Flat.{is_file_kind, is_folder_kind, file_names, first_folder, IsSortedOut, EntryIsUsable}
-use Rattle.deploy_engine.proofs.Lists.{all-append}
+use Rattle.tree_fs.proofs.Lists.{all_more}
 
 -- the names of the entries that pass a test, with one more entry
 pub passing_names-more : (p : Entry → Bool) (es : List Entry) (e : Entry)
@@ -43,7 +43,7 @@ pub sorted_more : (es : List Entry) (e : Entry) (path : List ℕ) (old new : Sor
     → new.folder ≡ option_or old.folder (if is_folder_kind e.kind then Some path else None)
     → IsSortedOut (es ++ e ∷ []) new
 sorted_more es e path old new so_far usable is files folder = record {
-  usable = all-append EntryIsUsable es (e ∷ []) so_far.usable (subst (IsUsable e.kind) is usable, tt);
+  usable = all_more EntryIsUsable es e so_far.usable (subst (IsUsable e.kind) is usable);
   files = files ∙ (λ i. so_far.files i ++ (if is_file_kind e.kind then is i ∷ [] else [])) ∙ sym (passing_names-more (λ e. is_file_kind e.kind) es e);
   folder = folder ∙ (λ i. option_or (so_far.folder i) (if is_folder_kind e.kind then Some (is i) else None)) ∙ sym (first_folder-more es e);
 }

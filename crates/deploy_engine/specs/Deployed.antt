@@ -1,7 +1,8 @@
 use Rattle.std.specs.Prelude.{◌≡◌, ◌≢◌, ◌⊎◌, ℕ, List}
 use Rattle.tree_fs.specs.Spot.{Spot}
 use Rattle.tree_fs.specs.Disk.{Disk, Value, MayHold, NothingPending}
-use Rattle.deploy_engine.specs.Mods.{staged_spot, game_spot, IsProvided, IsWinner}
+use Rattle.tree_fs.specs.Places.{staged_spot, game_spot}
+use Rattle.deploy_engine.specs.Mods.{IsProvided, IsWinner}
 
 -- what a deployment that answers Ok leaves
 pub record IsDeployed (d e : Disk) : Type 0 where

@@ -1,13 +1,14 @@
-use Rattle.std.specs.Prelude.{◌≡◌, ◌≢◌, ◌⊎◌, ℕ, Bool, true, false, ◌&&◌, List, [], ◌∷◌, map, filter, find, is_none}
+use Rattle.std.specs.Prelude.{◌≡◌, ◌≢◌, ◌⊎◌, ℕ, Bool, true, false, ◌&&◌, List, [], ◌∷◌, map, filter, find, is_none, IfSome}
 use Rattle.std.specs.List.{AllByRecursion, Contains}
 use Rattle.std.specs.Option.{MatchOption, option_map}
 use Rattle.std.specs.declared.option.Option.{Option}
-use Rattle.rel_paths.specs.Names.{IsModId, id_fault}
+use Rattle.rel_paths.specs.Names.{IsModId, IsUserPath, id_fault}
 use Rattle.tree_fs.specs.declared.name.Kind.{Kind}
 use Rattle.tree_fs.specs.declared.name.Kind.TheVariants.{Absent, File, Folder, Other}
 use Rattle.tree_fs.specs.declared.name.Entry.{Entry}
 use Rattle.tree_fs.specs.declared.place.Root.TheVariants.{Stage}
 use Rattle.tree_fs.specs.Spot.{Spot, root_spot}
+use Rattle.tree_fs.specs.EntryName.{IsName}
 use Rattle.tree_fs.specs.Disk.{Disk, kind_of}
 use Rattle.deploy_engine.specs.declared.staged.FlatMod.{FlatMod}
 use Rattle.deploy_engine.specs.declared.staged.SortedOut.{SortedOut}
@@ -48,6 +49,11 @@ EntryIsUsable e = IsUsable e.kind e.name
 abbrev pub HasUnusableEntry : List Entry → Type 0
 HasUnusableEntry entries = (e : Entry) × Contains entries e × IsUnusable e.kind e.name
 
+-- a mod's paths are user paths
+pub record HasUserPaths (m : FlatMod) : Type 0 where
+  pub files : AllByRecursion IsUserPath m.files.items
+  pub folder : IfSome m.folder IsUserPath
+
 -- a listing sorted out
 pub record IsSortedOut (entries : List Entry) (sorted : SortedOut) : Type 0 where
   pub usable : AllByRecursion EntryIsUsable entries
@@ -57,6 +63,7 @@ pub record IsSortedOut (entries : List Entry) (sorted : SortedOut) : Type 0 wher
 -- what a mod has, on the disk
 pub record HoldsFlat (d : Disk) (m : FlatMod) : Type 0 where
   pub is_mod : IsMod d m.id
+  pub named : (name : List ℕ) → kind_of d (entry_spot m.id name) ≢ Absent → IsName name
   pub usable : (name : List ℕ) → kind_of d (entry_spot m.id name) ≢ Absent → IsUsable (kind_of d (entry_spot m.id name)) name
   pub files : AllByRecursion (λ path. kind_of d (entry_spot m.id path) ≡ File) m.files.items
   pub whole : (path : List ℕ) → kind_of d (entry_spot m.id path) ≡ File → Contains m.files.items path

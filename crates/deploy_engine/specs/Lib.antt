@@ -7,3 +7,6 @@ pub mod Lines
 pub mod Answers
 pub mod Flat
 pub mod Looks
+pub mod Wins
+pub mod Decisions
+pub mod Done

@@ -10,7 +10,7 @@ use Rattle.deploy_engine.specs.declared.staged.Looked.{Looked}
 use Rattle.deploy_engine.specs.declared.staged.Looked.TheVariants.{NoMod, Unusable, Mod}
 use Rattle.deploy_engine.specs.Mods.{IsMod}
 use Rattle.deploy_engine.specs.Refusals.{HasUnusable}
-use Rattle.deploy_engine.specs.Flat.{HoldsFlat, is_mod_entry}
+use Rattle.deploy_engine.specs.Flat.{HoldsFlat, HasUserPaths, is_mod_entry}
 
 -- what a look into a mod's folder tells
 abbrev pub IsLookedInto : Disk → List ℕ → Looked → Type 0
@@ -23,6 +23,12 @@ abbrev pub IsLookedAt : Disk → Entry → Looked → Type 0
 IsLookedAt d e NoMod = is_mod_entry e ≡ false
 IsLookedAt d e Unusable = HasUnusable d
 IsLookedAt d e (Mod m) = (is_mod_entry e ≡ true) × (m.id ≡ e.name) × HoldsFlat d m
+
+-- a mod that was looked at has user paths
+abbrev pub LookedHasUserPaths : Looked → Type 0
+LookedHasUserPaths NoMod = Unit {0}
+LookedHasUserPaths Unusable = Unit {0}
+LookedHasUserPaths (Mod m) = HasUserPaths m
 
 -- the mods of a disk, in byte order of their ids
 pub record AreMods (d : Disk) (mods : List FlatMod) : Type 0 where

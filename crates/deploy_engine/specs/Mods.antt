@@ -4,10 +4,9 @@ use Rattle.std.specs.List.Sorted.{IsStrictlySortedBy}
 use Rattle.std.specs.Ordering.{nat_cmp}
 use Rattle.std.specs.Cmp.Lexicographic.{slice_cmp}
 use Rattle.std.specs.declared.cmp.Ordering.TheVariants.{Less}
-use Rattle.rel_paths.specs.Names.{names_of, IsModId}
-use Rattle.tree_fs.specs.declared.place.Root.TheVariants.{Stage, Game}
+use Rattle.rel_paths.specs.Names.{IsModId}
 use Rattle.tree_fs.specs.declared.name.Kind.TheVariants.{File, Folder}
-use Rattle.tree_fs.specs.Spot.{Spot}
+use Rattle.tree_fs.specs.Places.{mod_spot, staged_spot}
 use Rattle.tree_fs.specs.Disk.{Disk, kind_of}
 
 -- one text stands before another in byte order
@@ -17,21 +16,10 @@ IsBelow a b = slice_cmp nat_cmp a b ≡ Less
 abbrev pub IsAtMost : List ℕ → List ℕ → Type 0
 IsAtMost a b = (a ≡ b) ⊎ IsBelow a b
 
-abbrev pub mod_folder : List ℕ → Spot
-mod_folder id = record { root = Stage; names = id ∷ [] }
-
--- where a mod has its file for a path
-abbrev pub staged_spot : List ℕ → List ℕ → Spot
-staged_spot id path = record { root = Stage; names = id ∷ names_of path }
-
--- where a path is deployed
-abbrev pub game_spot : List ℕ → Spot
-game_spot path = record { root = Game; names = names_of path }
-
 -- the folders of `stage` whose names are mods' ids are the mods
 pub record IsMod (d : Disk) (id : List ℕ) : Type 0 where
   pub named : IsModId id
-  pub folder : kind_of d (mod_folder id) ≡ Folder
+  pub folder : kind_of d (mod_spot id) ≡ Folder
 
 -- the mod has a file for the path
 pub record Provides (d : Disk) (id path : List ℕ) : Type 0 where

@@ -5,15 +5,16 @@ use Rattle.tree_fs.specs.declared.name.Kind.{Kind}
 use Rattle.tree_fs.specs.declared.name.Kind.TheVariants.{Absent, Folder, Other}
 use Rattle.tree_fs.specs.Spot.{Spot, spot_of, below}
 use Rattle.tree_fs.specs.Texts.{control_spot}
+use Rattle.tree_fs.specs.Places.{mod_spot, game_spot}
 use Rattle.tree_fs.specs.Disk.{Disk, kind_of}
 use Rattle.deploy_engine.specs.declared.refusal.Refusal.{Refusal}
 use Rattle.deploy_engine.specs.declared.refusal.Refusal.TheVariants.{Early}
 use Rattle.deploy_engine.specs.declared.refusal.Early.TheVariants.{Taken, Folder as FolderFound, NotBuilt}
-use Rattle.deploy_engine.specs.Mods.{IsBelow, IsAtMost, mod_folder, game_spot, IsMod, IsProvided}
+use Rattle.deploy_engine.specs.Mods.{IsBelow, IsAtMost, IsMod, IsProvided}
 
 -- an entry of a mod, by its name
 abbrev pub entry_spot : List ℕ → List ℕ → Spot
-entry_spot id name = below (mod_folder id) name
+entry_spot id name = below (mod_spot id) name
 
 -- the entry can be deployed: a file or a folder whose path below the mod is a user path that isn't reserved
 pub record IsUsable (kind : Kind) (name : List ℕ) : Type 0 where
@@ -32,13 +33,19 @@ pub record HasUnusable (d : Disk) : Type 0 where
   pub there : kind_of d (entry_spot id name) ≢ Absent
   pub unusable : IsUnusable (kind_of d (entry_spot id name)) name
 
+abbrev pub IsControlThere : Disk → Type 0
+IsControlThere d = (which : Control) × (kind_of d (control_spot which) ≢ Absent)
+
+abbrev pub NoControlThere : Disk → Type 0
+NoControlThere d = (which : Control) → kind_of d (control_spot which) ≡ Absent
+
 -- a control place isn't absent, or an entry of a mod can't be deployed
 abbrev pub IsNotBuilt : Disk → Type 0
-IsNotBuilt d = ((which : Control) × (kind_of d (control_spot which) ≢ Absent)) ⊎ HasUnusable d
+IsNotBuilt d = IsControlThere d ⊎ HasUnusable d
 
 -- every control place is absent, and every entry of a mod can be deployed
 pub record IsBuilt (d : Disk) : Type 0 where
-  pub controls : (which : Control) → kind_of d (control_spot which) ≡ Absent
+  pub controls : NoControlThere d
   pub entries : (id name : List ℕ) → IsMod d id → kind_of d (entry_spot id name) ≢ Absent → IsUsable (kind_of d (entry_spot id name)) name
 
 abbrev pub HasFolder : Disk → List ℕ → List ℕ → Type 0

@@ -5,8 +5,13 @@
 #![tactic(auto)]
 
 mod answer;
+mod controls;
+mod decide;
 mod engine;
+mod lines;
+mod links;
 mod staged;
+mod winners;
 mod words;
 mod limits;
 mod refusal;

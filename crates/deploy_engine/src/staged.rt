@@ -1,13 +1,14 @@
 // The mods below `stage`, as a flat deployment sees them.
-ghost use Rattle.std.specs.Prelude.{◌≡◌, ◌++◌, ◌∷◌, [], Some, None, IfOk, MatchOption, if◌then◌else◌, OnOk};
+ghost use Rattle.std.specs.Prelude.{◌≡◌, ◌++◌, ◌∷◌, [], Some, None, IfOk, IfSome, MatchOption, if◌then◌else◌, OnOk};
+ghost use Rattle.std.specs.List.{AllByRecursion};
 ghost use Rattle.std.specs.Option.{option_or};
 ghost use Rattle.tree_fs.specs.Story.{disk_of};
 ghost use Rattle.tree_fs.specs.Calls.{HasCause};
 ghost use Rattle.tree_fs.specs.Listing.{IsListing, IsEntry};
 ghost use Rattle.deploy_engine.specs.Mods.{IsMod};
 ghost use Rattle.deploy_engine.specs.Refusals.{IsUsable, IsUnusable, HasUnusable};
-ghost use Rattle.deploy_engine.specs.Flat.{is_file_kind, is_folder_kind, HasUnusableEntry, IsSortedOut, stage_spot};
-ghost use Rattle.deploy_engine.specs.Looks.{IsLookedInto, IsLookedAt, AreMods};
+ghost use Rattle.deploy_engine.specs.Flat.{is_file_kind, is_folder_kind, HasUnusableEntry, HasUserPaths, IsSortedOut, stage_spot};
+ghost use Rattle.deploy_engine.specs.Looks.{IsLookedInto, IsLookedAt, LookedHasUserPaths, AreMods};
 
 use rel_paths::{ModId, PathError, RelPath};
 use std::alloc::{AllocError, Global};
@@ -97,6 +98,7 @@ enum Looked {
 fn look_into<T: Tree>(alloc: Global, tree: &mut T, id: ModId) -> Result<Looked, TreeError>
     requires { T.tells → IsMod (disk_of (T.story tree.old)) id }
     ensures answer { T.tells → IfOk result (IsLookedInto (disk_of (T.story tree.old)) id) }
+    ensures user { IfOk result LookedHasUserPaths }
     ensures same { T.tells → T.story tree.new ≡ T.story tree.old }
     ensures cause { HasCause (T.faults tree.old) (T.faults tree.new) result }
 {
@@ -116,6 +118,7 @@ fn look_into<T: Tree>(alloc: Global, tree: &mut T, id: ModId) -> Result<Looked, 
 fn look_at<T: Tree>(alloc: Global, tree: &mut T, entry: &Entry) -> Result<Looked, TreeError>
     requires { T.tells → IsEntry (disk_of (T.story tree.old)) stage_spot entry.now }
     ensures answer { T.tells → IfOk result (IsLookedAt (disk_of (T.story tree.old)) entry.now) }
+    ensures user { IfOk result LookedHasUserPaths }
     ensures same { T.tells → T.story tree.new ≡ T.story tree.old }
     ensures cause { HasCause (T.faults tree.old) (T.faults tree.new) result }
 {
@@ -135,6 +138,7 @@ pub(crate) fn staged_mods<T: Tree>(
     tree: &mut T,
 ) -> Result<Option<Vec<FlatMod>>, TreeError>
     ensures answer { T.tells → IfOk result (λ found. MatchOption found (HasUnusable (disk_of (T.story tree.old))) (λ mods. AreMods (disk_of (T.story tree.old)) mods.items)) }
+    ensures user { IfOk result (λ found. IfSome found (λ mods. AllByRecursion HasUserPaths mods.items)) }
     ensures same { T.tells → T.story tree.new ≡ T.story tree.old }
     ensures cause { HasCause (T.faults tree.old) (T.faults tree.new) result }
 {

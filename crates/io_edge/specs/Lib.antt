@@ -1,3 +1,6 @@
 pub mod Cause
 pub mod Appends
 pub mod Mem
+pub mod Lines
+pub mod Reader
+pub mod Gathered

@@ -2,13 +2,18 @@
 #![tactic(auto)]
 
 mod error;
+mod lines;
 mod mem;
 mod sink;
 mod source;
 mod std_io;
 
 pub use error::IoError;
+pub use lines::{Line, LineError, LineReader, MOST_LINE_BYTES, MOST_LINES};
 pub use mem::{MemSink, MemSource};
 pub use sink::{Sink, push_all};
 pub use source::Source;
 pub use std_io::{StdSink, StdSource};
+
+#[cfg(test)]
+mod tests;

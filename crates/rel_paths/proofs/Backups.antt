@@ -7,7 +7,7 @@ use Rattle.std.proofs.lemmas.List.Folds.{list_all-append, list_any-append}
 use Rattle.std.proofs.lemmas.List.Prefix.{end_rest}
 use Rattle.std.proofs.lemmas.Slice.Eq.{bytes_eq-Decides}
 use Rattle.rel_paths.specs.Names.{names_of, text_of, is_good_byte, is_good_name, is_name_within, user_limits, held_limits, IsUserPath, IsHeldPath, backup_ending, backup_names, has_backup, begins_with_manifest, is_reserved}
-use Rattle.rel_paths.proofs.Tests.{both, joint, either_first, either_second, not_false, not_zero, longer_differs, true_le, le_true}
+use Rattle.rel_paths.proofs.Truths.{both, joint, either_first, either_second, not_false, not_zero, longer_differs, true_le, le_true}
 use Rattle.rel_paths.proofs.NamesOf.{has_names, text_of-names_of}
 use Rattle.rel_paths.proofs.Limits.{IsWithin-from_fault, fault-from_IsWithin}
 use Rattle.rel_paths.proofs.OneName.{IsGoodName-from_test}

@@ -2,12 +2,15 @@
 use Rattle.std.proofs.Common.{◌≡◌, ℕ, true, false, ◌&&◌, ◌==◌, List, [], ◌∷◌, ◌++◌, ◌⊎◌, inl, inr, get_or, length, drop, refl, sym, ap, ◌∙◌, arith}
 use Rattle.std.specs.List.{starts_with}
 use Rattle.std.specs.Str.{bytes_eq}
+use Rattle.std.specs.Ordering.{nat_cmp}
+use Rattle.std.specs.Cmp.Lexicographic.{slice_cmp}
+use Rattle.std.specs.declared.cmp.Ordering.TheVariants.{Less, Equal}
 use Rattle.std.proofs.lemmas.List.{append-nil}
 use Rattle.std.proofs.lemmas.List.Prefix.{front_rest}
 use Rattle.std.proofs.lemmas.Bool.Decides.{eqb_tells, nat_tests, same_from_decides, Decides-like}
 use Rattle.std.proofs.lemmas.Slice.Eq.{starts_is, bytes_eq-Decides}
 use Rattle.rel_paths.specs.Names.{names_of, text_of, begins_with_manifest, manifest_name}
-use Rattle.rel_paths.proofs.Tests.{and_true}
+use Rattle.rel_paths.proofs.Truths.{and_true}
 use Rattle.rel_paths.proofs.NamesOf.{has_names, names_of-between, text_of-names_of, text_of-append}
 
 -- whose first names are those of another text is that text, or that text with a slash behind
@@ -20,7 +23,8 @@ first_names text other (m ∷ ms) e =
       sym (text_of-names_of text) ∙ ap text_of (e ∙ ap (λ l. l ++ m ∷ ms) r.2) ∙ text_of-append r.0 r.1 m ms ∙ ap (λ t. t ++ 47 ∷ text_of (m ∷ ms)) (ap text_of (sym r.2) ∙ text_of-names_of other),
     )
 
-told_names : (text other : List ℕ) → starts_with bytes_eq (names_of text) (names_of other) ≡ true → (text ≡ other) ⊎ ((rest : List ℕ) × (text ≡ other ++ 47 ∷ rest))
+-- what the test tells of the texts
+pub told_names : (text other : List ℕ) → starts_with bytes_eq (names_of text) (names_of other) ≡ true → (text ≡ other) ⊎ ((rest : List ℕ) × (text ≡ other ++ 47 ∷ rest))
 told_names text other h = first_names text other (drop (length (names_of other)) (names_of text)) ((starts_is bytes_eq-Decides (names_of text) (names_of other) _ refl).0 h)
 
 -- the test, where the text doesn't begin so
@@ -73,3 +77,18 @@ pub starts_with-manifest : (text : List ℕ) → starts_with bytes_eq (names_of 
 starts_with-manifest text =
     let r = has_names text in
     rw r.2 (same_test manifest_name r.0)
+
+-- what the test tells of any two lists of names
+pub IsPrefix-from_test : (names first : List (List ℕ)) → starts_with bytes_eq names first ≡ true → names ≡ first ++ drop (length first) names
+IsPrefix-from_test names first h = (starts_is bytes_eq-Decides names first _ refl).0 h
+
+pub test-from_prefix : (names first rest : List (List ℕ)) → names ≡ first ++ rest → starts_with bytes_eq names first ≡ true
+test-from_prefix names first rest e = (starts_is bytes_eq-Decides names first _ refl).1 rest e
+
+-- a text comes before those that stand below it
+pub cmp-below : (above below : List ℕ) → slice_cmp nat_cmp above (above ++ 47 ∷ below) ≡ Less
+cmp-below [] below = refl
+cmp-below (b ∷ bs) below = rw (cmp-itself b) (cmp-below bs below)
+  where
+    cmp-itself : (n : ℕ) → nat_cmp n n ≡ Equal
+    cmp-itself n = grind (arith, nat_tests)

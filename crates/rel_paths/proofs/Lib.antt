@@ -1,4 +1,4 @@
-pub mod Tests
+pub mod Truths
 pub mod NamesOf
 pub mod First
 pub mod Limits

@@ -11,7 +11,7 @@ use Rattle.rel_paths.specs.declared.names.Limits.{Limits}
 use Rattle.rel_paths.specs.declared.control.Control.{Control}
 use Rattle.rel_paths.specs.declared.control.Control.TheVariants.{Intent, IntentTemp, ManifestTemp, ProfileTemp, Profile, Manifest}
 use Rattle.rel_paths.specs.declared.error.PathError.TheVariants.{Empty, Long, Deep}
-use Rattle.rel_paths.proofs.Tests.{both, joint, some_bytes, not_zero, not_above, not_below, le_true, true_le}
+use Rattle.rel_paths.proofs.Truths.{both, joint, some_bytes, not_zero, not_above, not_below, le_true, true_le}
 use Rattle.rel_paths.specs.Controls.{control_path}
 use Rattle.rel_paths.specs.Names.{names_of, is_good_name, is_name_within, joined, bad_name_fault, path_fault, user_limits, held_limits, IsUserPath, IsHeldPath}
 
@@ -114,6 +114,15 @@ IsUserPath-control ManifestTemp = refl
 IsUserPath-control ProfileTemp = refl
 IsUserPath-control Profile = refl
 IsUserPath-control Manifest = refl
+
+-- of one name
+pub names_of-control : (which : Control) → names_of (control_path which) ≡ control_path which ∷ []
+names_of-control Intent = refl
+names_of-control IntentTemp = refl
+names_of-control ManifestTemp = refl
+names_of-control ProfileTemp = refl
+names_of-control Profile = refl
+names_of-control Manifest = refl
 
 pub IsHeldPath-control : (which : Control) → IsHeldPath (control_path which)
 IsHeldPath-control which = IsHeldPath-user (control_path which) (IsUserPath-control which)

@@ -7,7 +7,7 @@ use Rattle.std.proofs.lemmas.List.Elements.{All-weaker}
 use Rattle.std.proofs.lemmas.List.Sums.{AllPass-from_list_all}
 use Rattle.rel_paths.specs.declared.error.PathError.TheVariants.{Empty, BadName}
 use Rattle.rel_paths.specs.Names.{names_of, is_good_byte, is_good_name, is_name_within, id_fault, user_limits, IsModId, IsUserPath, IsHeldPath}
-use Rattle.rel_paths.proofs.Tests.{both, joint, false_from_not, some_bytes, not_zero, true_le}
+use Rattle.rel_paths.proofs.Truths.{both, joint, false_from_not, some_bytes, not_zero, true_le}
 use Rattle.rel_paths.proofs.NamesOf.{HasNoSlash, names_of-one}
 use Rattle.rel_paths.proofs.Limits.{IsWithin-from_fault, fault-from_IsWithin, IsHeldPath-user}
 

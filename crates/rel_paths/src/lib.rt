@@ -8,6 +8,8 @@ mod error;
 mod mod_id;
 mod names;
 mod path;
+#[cfg(test)]
+mod tests;
 
 pub use control::Control;
 pub use error::PathError;

@@ -17,6 +17,9 @@ use std::fmt;
 use std::hash::{Hash, Hasher};
 use std::marker::Model;
 
+// How many bytes an id may have.
+const MOST_BYTES: usize = 240;
+
 /// A mod's id: one good name of at most 240 bytes. A contract sees it as its bytes.
 #[derive(Drop)]
 pub struct ModId {
@@ -48,7 +51,7 @@ impl ModId {
         if text.is_empty() {
             return Err(PathError::Empty);
         }
-        if !is_name_within(240, text) {
+        if !is_name_within(MOST_BYTES, text) {
             return Err(PathError::BadName(0));
         }
         Ok(ModId {

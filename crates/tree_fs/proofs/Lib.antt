@@ -13,3 +13,5 @@ pub mod Moments
 pub mod Texts
 pub mod Parses
 pub mod Parts
+pub mod Listings
+pub mod PlaceSpots

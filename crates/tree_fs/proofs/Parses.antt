@@ -13,7 +13,7 @@ use Rattle.rel_paths.specs.declared.error.PathError.TheVariants.{Empty, Long, De
 use Rattle.rel_paths.specs.Names.{names_of, is_good_name, is_name_within, user_limits, Explains, bad_name_fault, path_fault, held_limits, IsHeldPath, IsUserPath, IsModId, joined, parent_names}
 use Rattle.rel_paths.proofs.Limits.{IsWithin-from_fault, IsHeldPath-user, IsHeldPath-joined}
 use Rattle.rel_paths.proofs.NamesOf.{has_names}
-use Rattle.rel_paths.proofs.Tests.{both, true_le}
+use Rattle.rel_paths.proofs.Truths.{both, true_le}
 use Rattle.rel_paths.proofs.OneName.{IsHeldPath-id, names_of-id, name-from_IsModId}
 use Rattle.tree_fs.specs.declared.place.Place.{Place}
 use Rattle.tree_fs.specs.declared.place.Root.{Root}

@@ -1,5 +1,5 @@
 // A place: a root, or a path below one.
-ghost use Rattle.std.specs.Prelude.{◌≡◌, IfOk, IfErr, IfSome, Some, Err, ◌∷◌, ◌++◌};
+ghost use Rattle.std.specs.Prelude.{◌≡◌, IfOk, IfErr, IfSome, Some, None, Err, ◌∷◌, ◌++◌};
 ghost use Rattle.std.specs.Option.{option_map};
 ghost use Rattle.std.specs.String.{string_bytes};
 ghost use Rattle.rel_paths.specs.Names.{IsUserPath, IsModId, Explains};
@@ -149,16 +149,30 @@ impl Place {
         }
     }
 
-    /// The root's word, then, where there is a path, `/` and the path.
+    /// The root's word, then, where there is a path, `/` and the path. `parse` takes each such text.
     pub fn text(&self, alloc: Global) -> Result<String, AllocError>
-        ensures { IfOk result (λ text. string_bytes text ≡ place_text self.now) }
+        ensures same { IfOk result (λ text. string_bytes text ≡ place_text self.now) }
+        ensures taken { IfOk result (λ _. place_fault (place_text self.now) ≡ None) }
     {
         let mut text = self.root.word().to_string(alloc)?;
         if let Some(path) = &self.rel {
             text.push_str("/")?;
             text.push_str(path.text())?;
         }
+        self.is_held();
         Ok(text)
+    }
+
+    // A place's path is within the limits of a held path.
+    fn is_held(&self)
+        ensures { place_fault (place_text self.now) ≡ None }
+    {
+        match &self.rel {
+            Some(path) => {
+                let _ = path.text();
+            }
+            None => {}
+        }
     }
 }
 

@@ -1,7 +1,7 @@
 use Rattle.std.proofs.Common.{◌≡◌, rules, sym}
 use Rattle.deploy_engine.specs.Flat.{IsSortedOut}
 use Rattle.deploy_engine.specs.Refusals.{IsUsable}
-use Rattle.deploy_engine.proofs.Lists.{one_more}
+use Rattle.tree_fs.proofs.Lists.{one_more}
 use Rattle.deploy_engine.proofs.Sorting.{sorted_more}
 use Rattle.deploy_engine.proofs.staged.sort_out.Goals as goal
 

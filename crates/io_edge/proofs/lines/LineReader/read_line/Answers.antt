@@ -1,0 +1,37 @@
+use Rattle.std.proofs.Common.{◌++◌, ap, ◌∙◌}
+use Rattle.std.proofs.lemmas.Result.{err_from_is_err_and}
+use Rattle.io_edge.specs.Gathered.{LineAndHeld}
+use Rattle.io_edge.specs.Reader.{ReaderState}
+use Rattle.io_edge.specs.Lines.{after_line}
+use Rattle.io_edge.proofs.AllLines.{lines-of_answer}
+use Rattle.io_edge.proofs.NextOf.{here_is, some_here, answer_too_many, answer_not_text, answer_line}
+use Rattle.io_edge.proofs.lines.LineReader.read_line.Goals as goal
+
+pub returns-then-self-ge-MOST_LINES-clause-answer :
+    goal.returns-then-self-ge-MOST_LINES-clause-answer
+returns-then-self-ge-MOST_LINES-clause-answer g c = λ told.
+    let held = ap (λ (a : LineAndHeld). a.held) c.clear_line.ensures.cleared ∙ ap (λ (s : ReaderState). s.held) c.self.view_is in
+    let left = g.S.Source.left c.fill.new.source in
+    answer_too_many c.self.inside.given _ (c.fill.new.self.held ++ left) _ (ap (λ (s : ReaderState). s.given) c.self.view_is) (here_is _ _ c.fill.new.self.held (g.S.Source.left c.args.source.now) left held (c.in_ok-fill.ensures.ahead told)) (some_here c.fill.new.self.held left _ c.if-not-branch.false c.in_ok-fill.ensures.more.1) c.if-self-ge-MOST_LINES.true
+
+pub returns-in_err-text-clause-answer : goal.returns-in_err-text-clause-answer
+returns-in_err-text-clause-answer g c =
+    let p = err_from_is_err_and c.from_residual-in_err-text.result c.from_residual-in_err-text.ensures.1 in
+    rw (p.1, p.2) (
+    λ told.
+    let held = ap (λ (a : LineAndHeld). a.held) c.clear_line.ensures.cleared ∙ ap (λ (s : ReaderState). s.held) c.self.view_is in
+    let left = g.S.Source.left c.fill.new.source in
+    answer_not_text c.self.inside.given _ (c.fill.new.self.held ++ left) _ c.gather.new.self.line _ (ap (λ (s : ReaderState). s.given) c.self.view_is) (here_is _ _ c.fill.new.self.held (g.S.Source.left c.args.source.now) left held (c.in_ok-fill.ensures.ahead told)) (some_here c.fill.new.self.held left _ c.if-not-branch.false c.in_ok-fill.ensures.more.1) c.if-self-ge-MOST_LINES.false (c.in_ok-gather.ensures.short told) (c.in_ok-gather.ensures.line told) c.in_err-text.ensures.err
+    )
+
+pub returns-clause-answer : goal.returns-clause-answer
+returns-clause-answer g c = λ told.
+    let held = ap (λ (a : LineAndHeld). a.held) c.clear_line.ensures.cleared ∙ ap (λ (s : ReaderState). s.held) c.self.view_is in
+    let left = g.S.Source.left c.fill.new.source in
+    answer_line c.self.inside.given _ (c.fill.new.self.held ++ left) _ c.gather.new.self.line _ (ap (λ (s : ReaderState). s.given) c.self.view_is) (here_is _ _ c.fill.new.self.held (g.S.Source.left c.args.source.now) left held (c.in_ok-fill.ensures.ahead told)) (some_here c.fill.new.self.held left _ c.if-not-branch.false c.in_ok-fill.ensures.more.1) c.if-self-ge-MOST_LINES.false (c.in_ok-gather.ensures.short told) (c.in_ok-gather.ensures.line told) c.in_ok-text.ensures.ok
+
+pub returns-clause-lines : goal.returns-clause-lines
+returns-clause-lines g c = λ told.
+    let held = ap (λ (a : LineAndHeld). a.held) c.clear_line.ensures.cleared ∙ ap (λ (s : ReaderState). s.held) c.self.view_is in
+    let same = here_is _ _ c.fill.new.self.held (g.S.Source.left c.args.source.now) (g.S.Source.left c.fill.new.source) held (c.in_ok-fill.ensures.ahead told) in
+    lines-of_answer c.args.self.now.given _ (c.gather.new.self.held ++ g.S.Source.left c.gather.new.source) _ (returns-clause-answer g c told) (c.in_ok-gather.ensures.rest told ∙ ap after_line same)

@@ -1,0 +1,30 @@
+use Rattle.std.specs.Prelude.{ℕ, ◌+◌, ◌-◌, ◌==◌, Bool, if◌then◌else◌, List, length, slice_index, take}
+use Rattle.std.specs.List.{before_first, after_first, position_or_len, list_any}
+use Rattle.std.specs.Str.Lines.{strip_carriage_return}
+
+abbrev pub is_lf : ℕ → Bool
+is_lf b = b == 10
+
+-- whether an LF stands in these bytes, which then ends their first line
+abbrev pub has_lf : List ℕ → Bool
+has_lf bytes = list_any is_lf bytes
+
+-- the bytes of the first line: those before the first LF, or all
+abbrev pub line_bytes : List ℕ → List ℕ
+line_bytes bytes = before_first is_lf bytes
+
+-- the first line with its LF, where it has one
+abbrev pub through_line : List ℕ → List ℕ
+through_line bytes = take (position_or_len is_lf bytes + 1) bytes
+
+-- what stands after the first line and its LF
+abbrev pub after_line : List ℕ → List ℕ
+after_line bytes = after_first is_lf bytes
+
+-- the text of the first line: a CR before its LF is no part of it
+abbrev pub line_text : List ℕ → List ℕ
+line_text bytes = if has_lf bytes then strip_carriage_return (line_bytes bytes) else line_bytes bytes
+
+-- a whole line without the LF at its end, and without a CR before that
+abbrev pub without_end : List ℕ → List ℕ
+without_end line = if slice_index line (length line - 1) == 10 then strip_carriage_return (take (length line - 1) line) else line

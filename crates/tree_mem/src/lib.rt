@@ -1,0 +1,12 @@
+//! A disk in memory, which tells its story.
+#![tactic(auto)]
+
+mod disk;
+mod entries;
+mod file;
+mod folders;
+mod mem_tree;
+mod text;
+mod tree;
+
+pub use tree::MemTree;
