@@ -15,3 +15,4 @@ pub mod Parses
 pub mod Parts
 pub mod Listings
 pub mod PlaceSpots
+pub mod NewFiles

@@ -23,9 +23,18 @@ fn places_have_their_texts(rt: HostRuntime) -> Result<(), Fail> {
     let id = ModId::parse(alloc, "better rocks")?;
     let path = RelPath::parse(alloc, "meshes/rock.nif")?;
     let staged = Place::staged(alloc, &id, &path)?;
-    assert_eq!(rt; staged.text(alloc)?.as_str(), "stage/better rocks/meshes/rock.nif");
-    assert_eq!(rt; Place::mod_folder(alloc, &id)?.text(alloc)?.as_str(), "stage/better rocks");
-    assert_eq!(rt; Place::game(alloc, &path)?.text(alloc)?.as_str(), "game/meshes/rock.nif");
+    assert_eq!(rt;
+        staged.text(alloc)?.as_str(),
+        "stage/better rocks/meshes/rock.nif"
+    );
+    assert_eq!(rt;
+        Place::mod_folder(alloc, &id)?.text(alloc)?.as_str(),
+        "stage/better rocks"
+    );
+    assert_eq!(rt;
+        Place::game(alloc, &path)?.text(alloc)?.as_str(),
+        "game/meshes/rock.nif"
+    );
     for (which, text) in [
         (Control::Intent, "keep/intent.json"),
         (Control::IntentTemp, "keep/intent.tmp"),
@@ -42,7 +51,10 @@ fn places_have_their_texts(rt: HostRuntime) -> Result<(), Fail> {
         rel: None,
     };
     assert_eq!(rt; root.text(alloc)?.as_str(), "keep");
-    assert_eq!(rt; format!(in alloc; "{root} {staged}")?.as_str(), "keep stage/better rocks/meshes/rock.nif");
+    assert_eq!(rt;
+        format!(in alloc; "{root} {staged}")?.as_str(),
+        "keep stage/better rocks/meshes/rock.nif"
+    );
     Ok(())
 }
 
@@ -60,7 +72,11 @@ fn a_texts_first_fault_is_told(rt: HostRuntime) -> Result<(), Fail> {
         ("stage/a/b/", Some(PathError::BadName(3))),
         ("keep/aside/1/a b.esp", None),
     ] {
-        assert_eq!(rt; fault_of(Place::parse(rt.alloc(), text)), fault, "at {text}");
+        assert_eq!(rt;
+            fault_of(Place::parse(rt.alloc(), text)),
+            fault,
+            "at {text}"
+        );
     }
     Ok(())
 }
@@ -80,7 +96,9 @@ fn parents_end_at_the_root(rt: HostRuntime) -> Result<(), Fail> {
 #[test]
 fn places_go_by_the_bytes_of_their_texts(rt: HostRuntime) -> Result<(), Fail> {
     let alloc = rt.alloc();
-    let texts = ["game", "game/a", "game/a b", "game/a/b", "game/b", "keep", "keep/a", "stage", "stage/a"];
+    let texts = [
+        "game", "game/a", "game/a b", "game/a/b", "game/b", "keep", "keep/a", "stage", "stage/a",
+    ];
     for (i, low) in texts.iter().enumerate() {
         let low = Place::parse(alloc, low)?;
         for (k, high) in texts.iter().enumerate() {
@@ -108,7 +126,11 @@ fn names_are_what_a_folder_can_have(rt: HostRuntime) -> Result<(), Fail> {
     }
     for (length, fault) in [(255, None), (256, Some(PathError::Long))] {
         let text = letters(alloc, length)?;
-        assert_eq!(rt; fault_of(Name::parse(alloc, text.as_str())), fault, "at {length}");
+        assert_eq!(rt;
+            fault_of(Name::parse(alloc, text.as_str())),
+            fault,
+            "at {length}"
+        );
     }
     assert_eq!(rt; Name::parse(alloc, "a b")?.text(), "a b");
     Ok(())
