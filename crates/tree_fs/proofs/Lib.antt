@@ -14,3 +14,4 @@ pub mod Texts
 pub mod Parses
 pub mod Listings
 pub mod PlaceSpots
+pub mod NewFiles
