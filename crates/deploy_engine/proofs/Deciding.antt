@@ -1,35 +1,32 @@
 -- From the mods that were read to what a deployment would do.
-use Rattle.std.proofs.Common.{◌≡◌, ◌≢◌, ◌⊎◌, ℕ, Bool, true, false, not, ◌&&◌, List, [], ◌∷◌, ◌++◌, sym, refl, subst, ap, ◌∙◌, map, inl, inr, arith, length, suc, zero}
+use Rattle.std.proofs.Common.{◌≡◌, ◌⊎◌, ℕ, Bool, true, false, not, ◌&&◌, List, [], ◌∷◌, ◌++◌, sym, refl, subst, ap, ◌∙◌, map, inl, inr, arith, length, suc, zero}
 use Rattle.std.specs.Prelude.{nat_eq}
-use Rattle.std.specs.List.{AllByRecursion, Contains, list_all, All}
+use Rattle.std.specs.List.{AllByRecursion, Contains, list_all}
 use Rattle.std.specs.List.Sorted.{IsStrictlySortedBy}
 use Rattle.std.specs.Option.{MatchOption}
 use Rattle.std.specs.Ordering.{nat_cmp}
 use Rattle.std.specs.Cmp.Lexicographic.{slice_cmp}
-use Rattle.std.specs.declared.option.Option.{Option}
-use Rattle.std.specs.declared.option.Option.TheVariants.{None, Some}
-use Rattle.std.specs.declared.cmp.Ordering.TheVariants.{Less}
+use Rattle.std.specs.declared.option.Option.TheVariants.{None}
 use Rattle.std.proofs.lemmas.List.{map-append}
 use Rattle.std.proofs.lemmas.List.Elements.{All-from_recursion}
 use Rattle.rel_paths.specs.Names.{names_of, text_of}
 use Rattle.rel_paths.proofs.NamesOf.{has_names, names_of-one, text_of-names_of}
-use Rattle.tree_fs.specs.declared.place.Root.TheVariants.{Stage, Game}
+use Rattle.tree_fs.specs.declared.place.Root.TheVariants.{Stage}
 use Rattle.tree_fs.specs.declared.name.Kind.TheVariants.{Absent, File, Folder}
 use Rattle.tree_fs.specs.EntryName.{IsName}
 use Rattle.tree_fs.specs.Spot.{Spot, spot_of, parent, front_names}
 use Rattle.tree_fs.specs.Places.{staged_spot, game_spot}
-use Rattle.tree_fs.specs.Disk.{Disk, IsValid, IsFile, kind_of}
+use Rattle.tree_fs.specs.Disk.{Disk, IsValid, kind_of}
 use Rattle.tree_fs.proofs.Disks.{file-in_folder}
 use Rattle.tree_fs.proofs.KindOf.{kind-file, folder-kind}
-use Rattle.tree_fs.proofs.Lists.{all_left, all_right, all_item, all_weaken, all_map, contains_map, contains_cases, contains_here, contains_there, map_contains}
+use Rattle.tree_fs.proofs.Lists.{all_right, all_item, all_weaken, contains_map, contains_cases, contains_here, contains_there, map_contains}
 use Rattle.deploy_engine.specs.declared.staged.FlatMod.{FlatMod}
 use Rattle.deploy_engine.specs.declared.winners.Win.{Win}
 use Rattle.deploy_engine.specs.Mods.{IsBelow, IsAtMost, IsMod, Provides, IsProvided, IsWinner}
-use Rattle.deploy_engine.specs.Refusals.{entry_spot, IsUsable, IsBuilt, HasFolder, HasNoFolder, IsFirstFolder, IsTaken, IsFirstTaken, NoRefusal, NoControlThere}
+use Rattle.deploy_engine.specs.Refusals.{entry_spot, IsUsable, IsBuilt, HasFolder, HasNoFolder, IsFirstFolder, IsFirstTaken, NoControlThere}
 use Rattle.deploy_engine.specs.Flat.{HoldsFlat}
 use Rattle.deploy_engine.specs.Looks.{AreMods}
 use Rattle.deploy_engine.specs.Wins.{has_file, IsLastWith, IsWinOf, AreWinsOf, IsFirstWithFolder, IsWin, AreWins, IsFirstTakenOf, AreFree, AreFlat}
-use Rattle.deploy_engine.specs.Decisions.{CanBeBuilt, CanBeFlat, CanLinkAll}
 use Rattle.deploy_engine.proofs.Winning.{contains_from_any, any_from_contains}
 use Rattle.deploy_engine.proofs.Linking.{sorted-front}
 
@@ -110,9 +107,9 @@ module _ (d : Disk) (mods : List FlatMod) (are : AreMods d mods) where
   is_built controls = record {
     controls = controls;
     entries = λ id name is_mod there.
-      let found = mod_of id is_mod in
-      let at : kind_of d (entry_spot found.0.id name) ≡ kind_of d (entry_spot id name) = ap (λ i. kind_of d (entry_spot i name)) found.2 in
-      subst (λ k. IsUsable k name) at (found.3.usable name (λ gone. there (sym at ∙ gone)));
+        let found = mod_of id is_mod in
+        let at : kind_of d (entry_spot found.0.id name) ≡ kind_of d (entry_spot id name) = ap (λ i. kind_of d (entry_spot i name)) found.2 in
+        subst (λ k. IsUsable k name) at (found.3.usable name (λ gone. there (sym at ∙ gone)));
   }
 
   folder_of : (m : FlatMod) → HoldsFlat d m → m.folder ≡ None → (name : List ℕ) → HasFolder d m.id name → ⊥
@@ -129,7 +126,7 @@ module _ (d : Disk) (mods : List FlatMod) (are : AreMods d mods) where
       let each = subst (AllByRecursion (HoldsFlat d)) first.here are.each in
       let holds = (all_right (HoldsFlat d) first.front (found ∷ first.back) each).0 in
       let tells : HasFolder d found.id first.name × ((other : List ℕ) → HasFolder d found.id other → IsAtMost first.name other) =
-        subst (λ o. MatchOption o ((name : List ℕ) → HasFolder d found.id name → ⊥) (λ name. HasFolder d found.id name × ((other : List ℕ) → HasFolder d found.id other → IsAtMost name other))) first.folder holds.folder in
+      subst (λ o. MatchOption o ((name : List ℕ) → HasFolder d found.id name → ⊥) (λ name. HasFolder d found.id name × ((other : List ℕ) → HasFolder d found.id other → IsAtMost name other))) first.folder holds.folder in
       let one = name_one first.name (holds.named first.name (λ gone. let no_way : Folder ≡ Absent = sym tells.0.1 ∙ gone in cc)) in
       let order = subst (IsStrictlySortedBy (slice_cmp nat_cmp)) (map-append (λ (m : FlatMod). m.id) first.front (found ∷ first.back)) (subst (λ l. IsStrictlySortedBy (slice_cmp nat_cmp) (map (λ (m : FlatMod). m.id) l)) first.here are.order) in
       record {
@@ -138,15 +135,15 @@ module _ (d : Disk) (mods : List FlatMod) (are : AreMods d mods) where
         is = first.is ∙ entry_staged found.id first.name one;
         there = tells.0;
         first = λ other_id other has.
-          let of = mod_of other_id has.0 in
-          let here = subst (λ l. Contains l of.0) first.here of.1 in
-          elim (at_seam first.front found first.back of.0 here) [
-            | inl front ↦ absurd (folder_of of.0 of.3 (all_item (λ (m : FlatMod). m.folder ≡ None) first.front of.0 first.before front) other (subst (λ i. HasFolder d i other) (sym of.2) has))
-            | inr rest ↦ elim rest [
-              | inl same ↦ inr (ap (λ (m : FlatMod). m.id) (sym same) ∙ of.2, tells.1 other (subst (λ i. HasFolder d i other) (sym (ap (λ (m : FlatMod). m.id) (sym same) ∙ of.2)) has))
-              | inr back ↦ inl (subst (λ i. IsBelow found.id i) of.2 (all_item (λ i. IsBelow found.id i) (map (λ (m : FlatMod). m.id) first.back) of.0.id (sorted-back (map (λ (m : FlatMod). m.id) first.front) found.id (map (λ (m : FlatMod). m.id) first.back) order) (map_contains (λ (m : FlatMod). m.id) first.back of.0 back)))
-            ]
-          ];
+            let of = mod_of other_id has.0 in
+            let here = subst (λ l. Contains l of.0) first.here of.1 in
+            elim (at_seam first.front found first.back of.0 here) [
+              | inl front ↦ absurd (folder_of of.0 of.3 (all_item (λ (m : FlatMod). m.folder ≡ None) first.front of.0 first.before front) other (subst (λ i. HasFolder d i other) (sym of.2) has))
+              | inr rest ↦ elim rest [
+                | inl same ↦ inr (ap (λ (m : FlatMod). m.id) (sym same) ∙ of.2, tells.1 other (subst (λ i. HasFolder d i other) (sym (ap (λ (m : FlatMod). m.id) (sym same) ∙ of.2)) has))
+                | inr back ↦ inl (subst (λ i. IsBelow found.id i) of.2 (all_item (λ i. IsBelow found.id i) (map (λ (m : FlatMod). m.id) first.back) of.0.id (sorted-back (map (λ (m : FlatMod). m.id) first.front) found.id (map (λ (m : FlatMod). m.id) first.back) order) (map_contains (λ (m : FlatMod). m.id) first.back of.0 back)))
+              ]
+            ];
       }
 
   -- the file of a mod, by its path
@@ -164,23 +161,25 @@ module _ (d : Disk) (mods : List FlatMod) (are : AreMods d mods) where
       let each = subst (AllByRecursion (HoldsFlat d)) last.here are.each in
       let holds = (all_right (HoldsFlat d) last.front (winner ∷ last.back) each).0 in
       let file = file_of winner path holds last.has in
-      let order = subst (IsStrictlySortedBy (slice_cmp nat_cmp)) (map-append (λ (m : FlatMod). m.id) last.front (winner ∷ last.back)) (subst (λ l. IsStrictlySortedBy (slice_cmp nat_cmp) (map (λ (m : FlatMod). m.id) l)) last.here are.order) in
-      (record {
-        provides = record { is_mod = holds.is_mod; file = subst (λ q. kind_of d q ≡ File) (sym (entry_staged winner.id path file.1)) file.0 };
-        last = λ other provides.
-          let of = mod_of other provides.is_mod in
-          let here = subst (λ l. Contains l of.0) last.here of.1 in
-          elim (at_seam last.front winner last.back of.0 here) [
-            | inl front ↦ inr (subst (λ i. IsBelow i winner.id) of.2 (all_item (λ i. IsBelow i winner.id) (map (λ (m : FlatMod). m.id) last.front) of.0.id (sorted-front (map (λ (m : FlatMod). m.id) last.front) winner.id (map (λ (m : FlatMod). m.id) last.back) order) (map_contains (λ (m : FlatMod). m.id) last.front of.0 front)))
-            | inr rest ↦ elim rest [
-              | inl same ↦ inl (sym of.2 ∙ ap (λ (m : FlatMod). m.id) same)
-              | inr back ↦
-                  let has = has_of of.0 path of.3 file.1 (subst (λ i. kind_of d (staged_spot i path) ≡ File) (sym of.2) provides.file) in
-                  let no_way : true ≡ false = sym has ∙ all_item (λ m. has_file path m ≡ false) last.back of.0 last.none_behind back in
-                  absurd (cc)
-            ]
-          ];
-      }, file.1)
+      let order = subst (IsStrictlySortedBy (slice_cmp nat_cmp)) (map-append (λ (m : FlatMod). m.id) last.front (winner ∷ last.back)) (subst (λ l. IsStrictlySortedBy (slice_cmp nat_cmp) (map (λ (m : FlatMod). m.id) l)) last.here are.order) in (
+        record {
+          provides = record { is_mod = holds.is_mod; file = subst (λ q. kind_of d q ≡ File) (sym (entry_staged winner.id path file.1)) file.0 };
+          last = λ other provides.
+              let of = mod_of other provides.is_mod in
+              let here = subst (λ l. Contains l of.0) last.here of.1 in
+              elim (at_seam last.front winner last.back of.0 here) [
+                | inl front ↦ inr (subst (λ i. IsBelow i winner.id) of.2 (all_item (λ i. IsBelow i winner.id) (map (λ (m : FlatMod). m.id) last.front) of.0.id (sorted-front (map (λ (m : FlatMod). m.id) last.front) winner.id (map (λ (m : FlatMod). m.id) last.back) order) (map_contains (λ (m : FlatMod). m.id) last.front of.0 front)))
+                | inr rest ↦ elim rest [
+                  | inl same ↦ inl (sym of.2 ∙ ap (λ (m : FlatMod). m.id) same)
+                  | inr back ↦
+                      let has = has_of of.0 path of.3 file.1 (subst (λ i. kind_of d (staged_spot i path) ≡ File) (sym of.2) provides.file) in
+                      let no_way : true ≡ false = sym has ∙ all_item (λ m. has_file path m ≡ false) last.back of.0 last.none_behind back in
+                      absurd (cc)
+                ]
+              ];
+        },
+        file.1,
+      )
 
   pub are_wins : (wins : List Win) → IsValid d → HasNoFolder d → AreWinsOf mods wins → AreWins d wins
   are_wins wins valid flat of_mods = record {
@@ -212,16 +211,16 @@ module _ (d : Disk) (wins : List Win) (are : AreWins d wins) where
       record {
         there = ((is.id, subst (λ p. Provides d is.id p) (sym first.is) is.winner.provides), λ gone. first.taken (ap (kind_of d) (is.to ∙ ap game_spot (sym first.is)) ∙ gone));
         first = λ other taken.
-          let of = contains_map (λ (w : Win). w.path) wins other (are.whole other taken.0) in
-          let here = subst (λ l. Contains l of.0) first.here of.1 in
-          let is_of = all_item (IsWin d) wins of.0 are.each of.1 in
-          elim (at_seam first.front found first.back of.0 here) [
-            | inl front ↦ absurd (taken.1 (ap (kind_of d) (ap game_spot (sym of.2) ∙ sym is_of.to) ∙ all_item (λ (w : Win). kind_of d (spot_of w.to) ≡ Absent) first.front of.0 first.before front))
-            | inr rest ↦ elim rest [
-              | inl same ↦ inl (first.is ∙ ap (λ (w : Win). w.path) (sym same) ∙ of.2)
-              | inr back ↦ inr (subst (λ p. IsBelow p other) (sym first.is) (subst (λ p. IsBelow found.path p) of.2 (all_item (λ p. IsBelow found.path p) (map (λ (w : Win). w.path) first.back) of.0.path (sorted-back (map (λ (w : Win). w.path) first.front) found.path (map (λ (w : Win). w.path) first.back) order) (map_contains (λ (w : Win). w.path) first.back of.0 back))))
-            ]
-          ];
+            let of = contains_map (λ (w : Win). w.path) wins other (are.whole other taken.0) in
+            let here = subst (λ l. Contains l of.0) first.here of.1 in
+            let is_of = all_item (IsWin d) wins of.0 are.each of.1 in
+            elim (at_seam first.front found first.back of.0 here) [
+              | inl front ↦ absurd (taken.1 (ap (kind_of d) (ap game_spot (sym of.2) ∙ sym is_of.to) ∙ all_item (λ (w : Win). kind_of d (spot_of w.to) ≡ Absent) first.front of.0 first.before front))
+              | inr rest ↦ elim rest [
+                | inl same ↦ inl (first.is ∙ ap (λ (w : Win). w.path) (sym same) ∙ of.2)
+                | inr back ↦ inr (subst (λ p. IsBelow p other) (sym first.is) (subst (λ p. IsBelow found.path p) of.2 (all_item (λ p. IsBelow found.path p) (map (λ (w : Win). w.path) first.back) of.0.path (sorted-back (map (λ (w : Win). w.path) first.front) found.path (map (λ (w : Win). w.path) first.back) order) (map_contains (λ (w : Win). w.path) first.back of.0 back))))
+              ]
+            ];
       }
 
   pub free_paths : AreFree d wins → (path : List ℕ) → IsProvided d path → kind_of d (game_spot path) ≡ Absent

@@ -1,6 +1,6 @@
 -- Linking the winners' files, one after the other.
-use Rattle.std.proofs.Common.{◌≡◌, ◌≢◌, ◌⊎◌, ℕ, Bool, true, false, List, [], ◌∷◌, ◌++◌, sym, refl, subst, ap, ◌∙◌, map, inl, inr, arith}
-use Rattle.std.specs.List.{AllByRecursion, Contains}
+use Rattle.std.proofs.Common.{◌≡◌, ◌≢◌, ℕ, Bool, true, false, List, [], ◌∷◌, ◌++◌, sym, refl, subst, ap, ◌∙◌, map, inl, inr}
+use Rattle.std.specs.List.{AllByRecursion}
 use Rattle.std.specs.List.Sorted.{IsStrictlySortedBy}
 use Rattle.std.specs.Ordering.{nat_cmp, ordering_reverse}
 use Rattle.std.specs.Cmp.Lexicographic.{slice_cmp}
@@ -10,13 +10,12 @@ use Rattle.std.proofs.lemmas.Cmp.{nat_list_cmp_total}
 use Rattle.std.proofs.lemmas.List.{map-append}
 use Rattle.rel_paths.specs.Names.{names_of}
 use Rattle.rel_paths.proofs.NamesOf.{same_text}
-use Rattle.tree_fs.specs.declared.place.Root.{Root}
-use Rattle.tree_fs.specs.declared.place.Root.TheVariants.{Stage, Game, Keep}
+use Rattle.tree_fs.specs.declared.place.Root.TheVariants.{Stage, Game}
 use Rattle.tree_fs.specs.declared.name.Kind.TheVariants.{Absent, File}
-use Rattle.tree_fs.specs.declared.op.Op.TheVariants.{Link, SyncFolder}
+use Rattle.tree_fs.specs.declared.op.Op.TheVariants.{Link}
 use Rattle.tree_fs.specs.Spot.{Spot, spot_of, root_spot, parent, below, is_entry}
 use Rattle.tree_fs.specs.Places.{staged_spot, game_spot}
-use Rattle.tree_fs.specs.Disk.{Disk, Value, none, MayHold, NothingPending, IsValid, IsFile, kind_of, after, synced}
+use Rattle.tree_fs.specs.Disk.{Disk, IsValid, kind_of, after, synced}
 use Rattle.std.specs.Result.{OnOk}
 use Rattle.std.specs.declared.result.Result.{Result}
 use Rattle.std.specs.declared.result.Result.TheVariants.{Ok, Err}
@@ -25,14 +24,14 @@ use Rattle.tree_fs.specs.declared.tree.TreeError.{TreeError}
 use Rattle.tree_fs.specs.Story.{Story, disk_of}
 use Rattle.tree_fs.specs.Calls.{CanLink, AddsOne}
 use Rattle.tree_fs.proofs.Stories.{disk_of-ok}
-use Rattle.tree_fs.proofs.Spots.{parent-below, is_entry-below, is_entry_tells}
-use Rattle.tree_fs.proofs.Disks.{MayHold-synced, before-put_other, before-synced_in, before-synced_out, before_synced_tells}
+use Rattle.tree_fs.proofs.Spots.{parent-below, is_entry-below}
+use Rattle.tree_fs.proofs.Disks.{MayHold-synced, before-put_other, before_synced_tells}
 use Rattle.tree_fs.proofs.Ops.{now-linked, now-linked_other, MayHold-linked}
 use Rattle.tree_fs.proofs.KindOf.{kind-file, kind-absent}
-use Rattle.tree_fs.proofs.Lists.{all_append, all_left, all_right, all_both, all_weaken, all_item, all_more, all_unmap, contains_map}
+use Rattle.tree_fs.proofs.Lists.{all_left, all_right, all_both, all_weaken, all_item, all_more, all_unmap, contains_map}
 use Rattle.deploy_engine.specs.declared.winners.Win.{Win}
-use Rattle.deploy_engine.specs.Mods.{IsBelow, IsAtMost, IsProvided, IsWinner, Provides}
-use Rattle.deploy_engine.specs.Deployed.{IsDeployed, IsBetween, IsWon}
+use Rattle.deploy_engine.specs.Mods.{IsBelow, IsAtMost, IsProvided, IsWinner}
+use Rattle.deploy_engine.specs.Deployed.{IsDeployed, IsBetween}
 use Rattle.deploy_engine.specs.Wins.{IsWin, AreWins, AreFree, AreFlat}
 
 -- Order
@@ -91,12 +90,12 @@ module _ (d : Disk) (done : List Win) (w : Win) (rest : List Win) (wins : AreWin
   before_this : AllByRecursion (λ v. v.path ≢ w.path) done
   before_this =
       let order : IsStrictlySortedBy (slice_cmp nat_cmp) (map (λ (v : Win). v.path) done ++ w.path ∷ map (λ (v : Win). v.path) rest) =
-        subst (IsStrictlySortedBy (slice_cmp nat_cmp)) (map_seam done w rest) wins.order in
+      subst (IsStrictlySortedBy (slice_cmp nat_cmp)) (map_seam done w rest) wins.order in
       all_unmap (λ p. p ≢ w.path) (λ (v : Win). v.path) done (all_weaken (λ x. IsBelow x w.path) (λ p. p ≢ w.path) (map (λ (v : Win). v.path) done) (λ x h. below-apart x w.path h) (sorted-front (map (λ (v : Win). v.path) done) w.path (map (λ (v : Win). v.path) rest) order))
 
   pub apart : AllByRecursion (λ v. spot_of w.to ≢ spot_of v.to) done
   apart = all_both (λ v. v.path ≢ w.path) (IsWin d) (λ v. spot_of w.to ≢ spot_of v.to) done
-    (λ v ne is e. game-apart v.path w.path ne (sym is.to ∙ sym e ∙ this.to)) before_this (all_left (IsWin d) done (w ∷ rest) wins.each)
+      (λ v ne is e. game-apart v.path w.path ne (sym is.to ∙ sym e ∙ this.to)) before_this (all_left (IsWin d) done (w ∷ rest) wins.each)
 
   pub source_apart : AllByRecursion (λ v. spot_of w.from ≢ spot_of v.to) done
   source_apart = all_weaken (IsWin d) (λ v. spot_of w.from ≢ spot_of v.to) done (λ v is e. staged-not_game this.id w.path v.path (sym this.from ∙ e ∙ is.to)) (all_left (IsWin d) done (w ∷ rest) wins.each)
@@ -113,7 +112,7 @@ module _ (d : Disk) (done : List Win) (w : Win) (rest : List Win) (wins : AreWin
         absent = (so_far.others (spot_of w.to) apart).0 ∙ absent.1;
         no_folder = ap (λ f. f (spot_of w.to)) so_far.between.folders ∙ absent.0;
         in_folder = subst (λ q. e.folders (parent q) ≡ true) (sym (this.to ∙ flat_spot w.path (all_right (λ v. names_of v.path ≡ v.path ∷ []) done (w ∷ rest) flat).0))
-          (subst (λ q. e.folders q ≡ true) (sym (parent-below (root_spot Game) w.path)) (valid.roots Game));
+            (subst (λ q. e.folders q ≡ true) (sym (parent-below (root_spot Game) w.path)) (valid.roots Game));
       }
 
   pub between_more : (e : Disk) → Linked d done e → IsBetween d (after e (Link w.from w.to true))
@@ -130,9 +129,9 @@ module _ (d : Disk) (done : List Win) (w : Win) (rest : List Win) (wins : AreWin
   pub linked_more : (e : Disk) → Linked d done e → Linked d (done ++ w ∷ []) (after e (Link w.from w.to true))
   linked_more e so_far = record {
     here = all_more (λ v. (after e (Link w.from w.to true)).now (spot_of v.to) ≡ d.now (spot_of v.from)) done w
-      (all_both (λ v. e.now (spot_of v.to) ≡ d.now (spot_of v.from)) (λ v. spot_of w.to ≢ spot_of v.to) (λ v. (after e (Link w.from w.to true)).now (spot_of v.to) ≡ d.now (spot_of v.from)) done
+        (all_both (λ v. e.now (spot_of v.to) ≡ d.now (spot_of v.from)) (λ v. spot_of w.to ≢ spot_of v.to) (λ v. (after e (Link w.from w.to true)).now (spot_of v.to) ≡ d.now (spot_of v.from)) done
         (λ v is ne. now-linked_other e w.from w.to (spot_of v.to) (λ s. ne (sym s)) ∙ is) so_far.here apart)
-      (now-linked e w.from w.to ∙ source_kept e so_far);
+        (now-linked e w.from w.to ∙ source_kept e so_far);
     others = λ q h.
         let old = so_far.others q (all_left (λ v. q ≢ spot_of v.to) done (w ∷ []) h) in
         let ne = (all_right (λ v. q ≢ spot_of v.to) done (w ∷ []) h).0 in
@@ -160,8 +159,8 @@ module _ (d : Disk) (wins : List Win) (are : AreWins d wins) (flat : AreFlat win
 
   no_entry : (q : Spot) → is_entry (root_spot Game) q ≡ false → AllByRecursion (λ w. q ≢ spot_of w.to) wins
   no_entry q out = all_both (IsWin d) (λ w. names_of w.path ≡ w.path ∷ []) (λ w. q ≢ spot_of w.to) wins
-    (λ w is one e. let in_game : is_entry (root_spot Game) q ≡ true = ap (is_entry (root_spot Game)) (e ∙ is.to ∙ flat_spot w.path one) ∙ is_entry-below (root_spot Game) w.path in let no_way : false ≡ true = sym out ∙ in_game in cc)
-    are.each flat
+      (λ w is one e. let in_game : is_entry (root_spot Game) q ≡ true = ap (is_entry (root_spot Game)) (e ∙ is.to ∙ flat_spot w.path one) ∙ is_entry-below (root_spot Game) w.path in let no_way : false ≡ true = sym out ∙ in_game in cc)
+      are.each flat
 
   pub deployed : (e : Disk) → Linked d wins e → IsDeployed d (synced e (root_spot Game))
   deployed e all = record {

@@ -1,6 +1,6 @@
 -- From a folder's listing to what the disk has there.
-use Rattle.std.proofs.Common.{◌≡◌, ◌≢◌, ◌⊎◌, ℕ, Bool, true, false, ◌&&◌, cond, List, [], ◌∷◌, ◌++◌, sym, refl, subst, ap, ◌∙◌, map, inl, inr, arith}
-use Rattle.std.specs.Prelude.{filter, find, is_none, IfSome}
+use Rattle.std.proofs.Common.{◌≡◌, ◌≢◌, ℕ, Bool, true, false, cond, List, [], ◌∷◌, sym, refl, subst, ap, ◌∙◌, map, inl, inr}
+use Rattle.std.specs.Prelude.{filter, find, IfSome}
 use Rattle.rel_paths.specs.Names.{IsUserPath}
 use Rattle.std.specs.List.{AllByRecursion, Contains}
 use Rattle.std.specs.List.Sorted.{IsStrictlySortedBy}
@@ -15,12 +15,10 @@ use Rattle.tree_fs.specs.declared.name.Kind.TheVariants.{Absent, File, Folder, O
 use Rattle.tree_fs.specs.declared.name.Entry.{Entry}
 use Rattle.tree_fs.specs.EntryName.{IsName}
 use Rattle.tree_fs.specs.Disk.{Disk, kind_of}
-use Rattle.tree_fs.specs.Spot.{Spot, below}
 use Rattle.tree_fs.specs.Places.{mod_spot}
 use Rattle.tree_fs.specs.Listing.{IsListing, IsEntry, entry_names}
 use Rattle.tree_fs.proofs.Lists.{all_item, all_map, all_unmap, contains_cases, contains_none, contains_here, contains_there, contains_map, map_contains}
 use Rattle.deploy_engine.specs.declared.staged.SortedOut.{SortedOut}
-use Rattle.deploy_engine.specs.declared.staged.FlatMod.{FlatMod}
 use Rattle.deploy_engine.specs.Mods.{IsMod, IsAtMost}
 use Rattle.deploy_engine.specs.Refusals.{entry_spot, IsUsable, IsUnusable, HasUnusable, HasFolder}
 use Rattle.deploy_engine.specs.Flat.{is_file_kind, is_folder_kind, file_names, first_folder, IsSortedOut, EntryIsUsable, HasUnusableEntry, HasUserPaths, HoldsFlat}
@@ -70,7 +68,8 @@ first_more p e es (Some x) fails first = (
   λ y c passes. elim (contains_cases e y es c) [
     | inl is ↦ let other : true ≡ false = sym passes ∙ ap p is ∙ fails in absurd (cc)
     | inr there ↦ first.2 y there passes
-  ])
+  ],
+)
 
 pub first_of : (p : Entry → Bool) (es : List Entry) → IsStrictlySortedBy (slice_cmp nat_cmp) (entry_names es) → FirstOf p es (find p es)
 unfolding IsStrictlySortedBy
@@ -84,7 +83,8 @@ first_of p (e ∷ es) s = here (p e) refl (first_of p es s.1)
       λ y c passes. elim (contains_cases e y es c) [
         | inl same ↦ inl (ap (λ (x : Entry). x.name) (sym same))
         | inr there ↦ inr (all_item (λ (x : Entry). slice_cmp nat_cmp e.name x.name ≡ Less) es y (all_unmap (λ n. slice_cmp nat_cmp e.name n ≡ Less) (λ (x : Entry). x.name) es s.0) there)
-      ])
+      ],
+    )
     here false is rest = first_more p e es (find p es) is rest
 
 first_user : (es : List Entry) → AllByRecursion EntryIsUsable es → IfSome (first_folder es) IsUserPath
@@ -128,6 +128,7 @@ module _ (d : Disk) (id : List ℕ) (es : List Entry) (listing : IsListing d (mo
     where
       p : Entry → Bool
       p = λ e. is_file_kind e.kind
+
       by_map : (xs : List Entry) → AllByRecursion (λ e. kind_of d (entry_spot id e.name) ≡ File) xs → AllByRecursion (λ path. kind_of d (entry_spot id path) ≡ File) (map (λ e. e.name) xs)
       by_map [] a = tt
       by_map (x ∷ xs) a = (a.0, by_map xs a.1)
@@ -137,17 +138,19 @@ module _ (d : Disk) (id : List ℕ) (es : List Entry) (listing : IsListing d (mo
       let found = named path (λ gone. let no : File ≡ Absent = sym is ∙ gone in cc) in
       let passes : is_file_kind found.0.kind ≡ true = ap is_file_kind (found.3 ∙ is) in
       subst (λ n. Contains (file_names es) n) found.2
-        (map_contains (λ (e : Entry). e.name) (filter (λ e. is_file_kind e.kind) es) found.0 (contains_filter (λ e. is_file_kind e.kind) es found.0 found.1 passes))
+      (map_contains (λ (e : Entry). e.name) (filter (λ e. is_file_kind e.kind) es) found.0 (contains_filter (λ e. is_file_kind e.kind) es found.0 found.1 passes))
 
   folder_listed : IsMod d id → MatchOption (first_folder es) ((name : List ℕ) → HasFolder d id name → ⊥) (λ name. HasFolder d id name × ((other : List ℕ) → HasFolder d id other → IsAtMost name other))
   folder_listed is_mod = tells (find p es) (first_of p es listing.order)
     where
       p : Entry → Bool
       p = λ e. is_folder_kind e.kind
+
       folder_named : (name : List ℕ) → HasFolder d id name → (e : Entry) × Contains es e × (e.name ≡ name) × (p e ≡ true)
       folder_named name has =
           let found = named name (λ gone. let no : Folder ≡ Absent = sym has.1 ∙ gone in cc) in
           (found.0, found.1, found.2, ap is_folder_kind (found.3 ∙ has.1))
+
       tells : (o : Option Entry) → FirstOf p es o → MatchOption (option_map (λ e. e.name) o) ((name : List ℕ) → HasFolder d id name → ⊥) (λ name. HasFolder d id name × ((other : List ℕ) → HasFolder d id other → IsAtMost name other))
       tells None all = λ name has.
           let found = folder_named name has in
@@ -155,7 +158,8 @@ module _ (d : Disk) (id : List ℕ) (es : List Entry) (listing : IsListing d (mo
           absurd (cc)
       tells (Some e) first = (
         (is_mod, sym (listed e first.0).1 ∙ is_folder_kind-folder e.kind first.1),
-        λ other has. let found = folder_named other has in subst (λ n. IsAtMost e.name n) found.2 (first.2 found.0 found.1 found.3))
+        λ other has. let found = folder_named other has in subst (λ n. IsAtMost e.name n) found.2 (first.2 found.0 found.1 found.3),
+      )
 
   pub holds_flat : (sorted : SortedOut) → IsMod d id → IsSortedOut es sorted → HoldsFlat d (record { id = id; files = sorted.files; folder = sorted.folder })
   holds_flat sorted is_mod out = record {
@@ -171,6 +175,6 @@ module _ (d : Disk) (id : List ℕ) (es : List Entry) (listing : IsListing d (mo
 pub sorted_user : (es : List Entry) (sorted : SortedOut) (id : List ℕ) → IsSortedOut es sorted → HasUserPaths (record { id = id; files = sorted.files; folder = sorted.folder })
 sorted_user es sorted id out = record {
   files = subst (AllByRecursion IsUserPath) (sym out.files) (all_map IsUserPath (λ (e : Entry). e.name) (filter (λ e. is_file_kind e.kind) es)
-    (filter_passes (λ e. IsUserPath e.name) (λ e. is_file_kind e.kind) es (λ e c _. (all_item EntryIsUsable es e out.usable c).user)));
+      (filter_passes (λ e. IsUserPath e.name) (λ e. is_file_kind e.kind) es (λ e c _. (all_item EntryIsUsable es e out.usable c).user)));
   folder = subst (λ o. IfSome o IsUserPath) (sym out.folder) (first_user es out.usable);
 }

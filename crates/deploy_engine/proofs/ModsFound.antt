@@ -1,16 +1,13 @@
 -- From the listing of `stage` to its mods.
-use Rattle.std.proofs.Common.{◌≡◌, ◌≢◌, ◌⊎◌, ℕ, Bool, true, false, ◌&&◌, cond, List, [], ◌∷◌, ◌++◌, sym, refl, subst, ap, ◌∙◌, map, inl, inr, arith}
+use Rattle.std.proofs.Common.{◌≡◌, ℕ, Bool, true, false, ◌&&◌, cond, List, [], ◌∷◌, sym, subst, ap, ◌∙◌, map}
 use Rattle.std.specs.Prelude.{filter, is_none}
 use Rattle.std.specs.List.{AllByRecursion, Contains}
 use Rattle.std.specs.List.Sorted.{IsStrictlySortedBy}
 use Rattle.std.specs.Ordering.{nat_cmp}
 use Rattle.std.specs.Cmp.Lexicographic.{slice_cmp}
-use Rattle.std.specs.declared.option.Option.{Option}
-use Rattle.std.specs.declared.option.Option.TheVariants.{None, Some}
 use Rattle.std.specs.declared.cmp.Ordering.TheVariants.{Less}
-use Rattle.rel_paths.specs.Names.{id_fault, IsModId}
-use Rattle.tree_fs.specs.declared.name.Kind.{Kind}
-use Rattle.tree_fs.specs.declared.name.Kind.TheVariants.{Absent, File, Folder, Other}
+use Rattle.rel_paths.specs.Names.{id_fault}
+use Rattle.tree_fs.specs.declared.name.Kind.TheVariants.{Absent, Folder}
 use Rattle.tree_fs.specs.declared.name.Entry.{Entry}
 use Rattle.tree_fs.specs.Disk.{Disk, kind_of}
 use Rattle.tree_fs.specs.Listing.{IsListing, IsEntry, entry_names}
@@ -18,10 +15,9 @@ use Rattle.tree_fs.proofs.Lists.{all_item, all_map, all_unmap, contains_map, map
 use Rattle.deploy_engine.specs.declared.staged.FlatMod.{FlatMod}
 use Rattle.deploy_engine.specs.declared.staged.Looked.{Looked}
 use Rattle.deploy_engine.specs.declared.staged.Looked.TheVariants.{NoMod, Unusable, Mod}
-use Rattle.deploy_engine.specs.Mods.{IsMod}
 use Rattle.deploy_engine.specs.Flat.{is_folder_kind, is_mod_entry, mod_names, stage_spot, HoldsFlat}
 use Rattle.deploy_engine.specs.Looks.{IsLookedInto, IsLookedAt, AreMods}
-use Rattle.deploy_engine.proofs.Listed.{contains_filter, filter_passes, is_folder_kind-folder}
+use Rattle.deploy_engine.proofs.Listed.{contains_filter, filter_passes}
 
 -- names in order stay so where some are left out
 sorted_filter : (p : Entry → Bool) (es : List Entry) → IsStrictlySortedBy (slice_cmp nat_cmp) (entry_names es) → IsStrictlySortedBy (slice_cmp nat_cmp) (entry_names (filter p es))
@@ -31,7 +27,8 @@ sorted_filter p (e ∷ es) s = here (p e) (sorted_filter p es s.1)
   where
     below : AllByRecursion (λ n. slice_cmp nat_cmp e.name n ≡ Less) (entry_names (filter p es))
     below = all_map (λ n. slice_cmp nat_cmp e.name n ≡ Less) (λ (x : Entry). x.name) (filter p es)
-      (filter_passes (λ x. slice_cmp nat_cmp e.name x.name ≡ Less) p es (λ x c _. all_item (λ (y : Entry). slice_cmp nat_cmp e.name y.name ≡ Less) es x (all_unmap (λ n. slice_cmp nat_cmp e.name n ≡ Less) (λ (y : Entry). y.name) es s.0) c))
+        (filter_passes (λ x. slice_cmp nat_cmp e.name x.name ≡ Less) p es (λ x c _. all_item (λ (y : Entry). slice_cmp nat_cmp e.name y.name ≡ Less) es x (all_unmap (λ n. slice_cmp nat_cmp e.name n ≡ Less) (λ (y : Entry). y.name) es s.0) c))
+
     here : (b : Bool) → IsStrictlySortedBy (slice_cmp nat_cmp) (entry_names (filter p es)) → IsStrictlySortedBy (slice_cmp nat_cmp) (entry_names (cond b (e ∷ filter p es) (filter p es)))
     here true rest = (below, rest)
     here false rest = rest

@@ -1,17 +1,15 @@
 use Rattle.std.proofs.Common.{◌≡◌, ℕ, Bool, true, false, cond, List, [], ◌∷◌, ◌++◌, sym, refl, subst, ap, ◌∙◌, map}
 use Rattle.std.specs.Prelude.{if◌then◌else◌, filter, find}
-use Rattle.std.specs.List.{AllByRecursion}
 use Rattle.std.specs.Option.{option_or, option_map}
 use Rattle.std.specs.declared.option.Option.{Option}
 use Rattle.std.specs.declared.option.Option.TheVariants.{None, Some}
 use Rattle.std.proofs.lemmas.List.{map-append}
 use Rattle.std.proofs.lemmas.List.Elements.{filter-append}
 use Rattle.std.proofs.lemmas.List.Folds.{find-append}
-use Rattle.tree_fs.specs.declared.name.Kind.{Kind}
 use Rattle.tree_fs.specs.declared.name.Entry.{Entry}
 use Rattle.deploy_engine.specs.declared.staged.SortedOut.{SortedOut}
 use Rattle.deploy_engine.specs.Refusals.{IsUsable}
-use Rattle.deploy_engine.specs.Flat.{is_file_kind, is_folder_kind, file_names, first_folder, IsSortedOut, EntryIsUsable}
+use Rattle.deploy_engine.specs.Flat.{is_file_kind, is_folder_kind, first_folder, IsSortedOut, EntryIsUsable}
 use Rattle.tree_fs.proofs.Lists.{all_more}
 
 -- the names of the entries that pass a test, with one more entry
@@ -34,6 +32,7 @@ first_folder-more es e =
   where
     p : Entry → Bool
     p = λ e. is_folder_kind e.kind
+
     here : (b : Bool) → option_map (λ e. e.name) (cond b (Some e) None) ≡ (if b then Some e.name else None)
     here true = refl
     here false = refl

@@ -1,10 +1,9 @@
 -- From what a command did to its answer and its line.
-use Rattle.std.proofs.Common.{◌≡◌, ℕ, List, refl, sym, map, length, subst}
-use Rattle.std.specs.List.{Contains}
+use Rattle.std.proofs.Common.{ℕ, List, refl, sym, map, length, subst}
 use Rattle.std.proofs.lemmas.List.{length-map}
 use Rattle.io_edge.specs.Appends.{AppendsPrefix}
 use Rattle.tree_fs.specs.Disk.{Disk}
-use Rattle.tree_fs.specs.Story.{Story, disk_of}
+use Rattle.tree_fs.specs.Story.{Story}
 use Rattle.tree_fs.proofs.Lists.{all_item, contains_map}
 use Rattle.deploy_engine.specs.declared.winners.Win.{Win}
 use Rattle.deploy_engine.specs.declared.engine.Done.{Done}
@@ -20,9 +19,9 @@ counts_wins d wins are = record {
   lists = record {
     order = are.order;
     each = λ path there.
-      let of = contains_map (λ (w : Win). w.path) wins path there in
-      let is = all_item (IsWin d) wins of.0 are.each of.1 in
-      (is.id, subst (λ p. Provides d is.id p) of.2 is.winner.provides);
+        let of = contains_map (λ (w : Win). w.path) wins path there in
+        let is = all_item (IsWin d) wins of.0 are.each of.1 in
+        (is.id, subst (λ p. Provides d is.id p) of.2 is.winner.provides);
     whole = are.whole;
   };
   counts = sym (length-map wins (λ (w : Win). w.path));

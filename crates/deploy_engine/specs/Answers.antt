@@ -1,4 +1,4 @@
-use Rattle.std.specs.Prelude.{◌≡◌, ◌⊎◌, ℕ, List}
+use Rattle.std.specs.Prelude.{◌≡◌, ℕ, List}
 use Rattle.io_edge.specs.Appends.{AppendsPrefix}
 use Rattle.tree_fs.specs.Story.{Story, disk_of}
 use Rattle.tree_fs.specs.Disk.{Disk}

@@ -1,9 +1,7 @@
-use Rattle.std.specs.Prelude.{◌≡◌, ◌⊎◌, ℕ, List, ◌++◌}
-use Rattle.io_edge.specs.Appends.{AppendsPrefix}
+use Rattle.std.specs.Prelude.{◌≡◌, ◌⊎◌, ℕ, List}
 use Rattle.tree_fs.specs.Story.{Story, disk_of}
-use Rattle.tree_fs.specs.Disk.{Disk}
 use Rattle.deploy_engine.specs.declared.answer.Answer.{Answer}
-use Rattle.deploy_engine.specs.declared.answer.Answer.TheVariants.{Ok, Changes, Usage, Refused, RecoverFirst, TreeFault, SourceFault, SinkFault, Memory}
+use Rattle.deploy_engine.specs.declared.answer.Answer.TheVariants.{Ok, Usage, Refused, SinkFault, Memory}
 use Rattle.deploy_engine.specs.declared.engine.Done.{Done}
 use Rattle.deploy_engine.specs.declared.engine.Done.TheVariants.{NoCommand, Deployed, Turned}
 use Rattle.deploy_engine.specs.Words.{IsDeployForm}

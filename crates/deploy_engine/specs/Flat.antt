@@ -1,8 +1,8 @@
-use Rattle.std.specs.Prelude.{◌≡◌, ◌≢◌, ◌⊎◌, ℕ, Bool, true, false, ◌&&◌, List, [], ◌∷◌, map, filter, find, is_none, IfSome}
+use Rattle.std.specs.Prelude.{◌≡◌, ◌≢◌, ℕ, Bool, true, false, ◌&&◌, List, map, filter, find, is_none, IfSome}
 use Rattle.std.specs.List.{AllByRecursion, Contains}
 use Rattle.std.specs.Option.{MatchOption, option_map}
 use Rattle.std.specs.declared.option.Option.{Option}
-use Rattle.rel_paths.specs.Names.{IsModId, IsUserPath, id_fault}
+use Rattle.rel_paths.specs.Names.{IsUserPath, id_fault}
 use Rattle.tree_fs.specs.declared.name.Kind.{Kind}
 use Rattle.tree_fs.specs.declared.name.Kind.TheVariants.{Absent, File, Folder, Other}
 use Rattle.tree_fs.specs.declared.name.Entry.{Entry}

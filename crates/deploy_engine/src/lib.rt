@@ -8,13 +8,15 @@ mod answer;
 mod controls;
 mod decide;
 mod engine;
+mod limits;
 mod lines;
 mod links;
+mod refusal;
 mod staged;
+#[cfg(test)]
+mod tests;
 mod winners;
 mod words;
-mod limits;
-mod refusal;
 
 pub use answer::Answer;
 pub use engine::run;

@@ -17,10 +17,7 @@ use std::alloc::AllocError;
 use tree_fs::{Kind, Place, Root, Tree, TreeError};
 
 /// The first path at which something stands in the game folder.
-pub(crate) fn first_taken<T: Tree>(
-    tree: &mut T,
-    wins: &[Win],
-) -> Result<Option<RelPath>, TreeError>
+pub(crate) fn first_taken<T: Tree>(tree: &mut T, wins: &[Win]) -> Result<Option<RelPath>, TreeError>
     ensures answer { T.tells → IfOk result (λ found. MatchOption found (AreFree (disk_of (T.story tree.old)) wins.now) (IsFirstTakenOf (disk_of (T.story tree.old)) wins.now)) }
     ensures same { T.tells → T.story tree.new ≡ T.story tree.old }
     ensures cause { HasCause (T.faults tree.old) (T.faults tree.new) result }

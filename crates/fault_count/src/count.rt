@@ -1,5 +1,5 @@
 // A count that stands still at its end.
-ghost use Rattle.std.specs.Prelude.{◌≡◌, ◌<◌, ◌^◌};
+ghost use Rattle.std.specs.Prelude.{◌≡◌, ◌<◌, ◌≤◌, ◌+◌, ◌-◌, ◌^◌, min};
 ghost use Rattle.fault_count.specs.Rose.{Rose};
 
 use std::marker::Model;
@@ -34,10 +34,26 @@ impl FaultCount {
         self.count
     }
 
-    /// One fault more.
+    /// One fault more, where the count doesn't stand at its end.
     pub fn raise(&mut self)
-        ensures { Rose self.old self.new }
+        ensures next { self.new ≡ min (self.old + 1) (2 ^ 64 - 1) }
+        ensures rose { Rose self.old self.new }
+        ensures later { self.old ≤ self.new }
     {
         self.count = self.count.saturating_add(1);
+    }
+}
+
+#[cfg(test)]
+mod tests {
+    use super::*;
+
+    #[test]
+    fn a_count_rises_one_by_one(rt: HostRuntime) {
+        let mut count = FaultCount::new();
+        assert_eq!(rt; count.get(), 0);
+        count.raise();
+        count.raise();
+        assert_eq!(rt; count.get(), 2);
     }
 }

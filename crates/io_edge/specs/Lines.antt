@@ -2,6 +2,14 @@ use Rattle.std.specs.Prelude.{ℕ, ◌+◌, ◌-◌, ◌==◌, Bool, if◌then�
 use Rattle.std.specs.List.{before_first, after_first, position_or_len, list_any}
 use Rattle.std.specs.Str.Lines.{strip_carriage_return}
 
+-- the most lines of an input
+abbrev pub most_lines : ℕ
+most_lines = 10000
+
+-- the most bytes of a line, its LF not counted
+abbrev pub most_line_bytes : ℕ
+most_line_bytes = 4096
+
 abbrev pub is_lf : ℕ → Bool
 is_lf b = b == 10
 

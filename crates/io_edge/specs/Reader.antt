@@ -9,8 +9,7 @@ use Rattle.io_edge.specs.declared.error.IoError.{IoError}
 use Rattle.io_edge.specs.declared.error.IoError.TheVariants as io
 use Rattle.io_edge.specs.declared.lines.LineError.{LineError}
 use Rattle.io_edge.specs.declared.lines.LineError.TheVariants.{TooLong, TooMany, NotText, Failed, Memory}
-use Rattle.io_edge.specs.declared.lines.TheConstants.{MOST_LINES, MOST_LINE_BYTES}
-use Rattle.io_edge.specs.Lines.{line_bytes, line_text}
+use Rattle.io_edge.specs.Lines.{most_lines, most_line_bytes, line_bytes, line_text}
 
 -- a line as it is given: its number, counted from 1, and the bytes of its text
 pub record LineText : Type 0 where
@@ -30,8 +29,8 @@ pub record ReaderState : Type 0 where
 abbrev pub next_of : ℕ → List ℕ → Result (Option LineText) LineError
 next_of given [] = Ok None
 next_of given (b ∷ bs) =
-    if nat_le MOST_LINES given then Err TooMany
-    else if nat_lt MOST_LINE_BYTES (length (line_bytes (b ∷ bs))) then Err (TooLong (given + 1))
+    if nat_le most_lines given then Err TooMany
+    else if nat_lt most_line_bytes (length (line_bytes (b ∷ bs))) then Err (TooLong (given + 1))
     else if is_utf8 (line_text (b ∷ bs)) then Ok (Some (record { number = given + 1; text = line_text (b ∷ bs) })) else Err (NotText (given + 1))
 
 -- the text of the line that an answer gives

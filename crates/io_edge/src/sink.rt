@@ -41,7 +41,8 @@ pub fn push_all<K: Sink>(sink: &mut K, bytes: &[u8]) -> Result<(), IoError>
 {
     let mut done = 0;
     while done < bytes.len() {
-        done += sink.push(&bytes[done..])?;
+        let count = sink.push(&bytes[done..])?;
+        done += count;
     }
     Ok(())
 }

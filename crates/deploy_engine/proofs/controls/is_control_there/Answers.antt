@@ -1,4 +1,4 @@
-use Rattle.std.proofs.Common.{◌≡◌, ap, sym, ◌∙◌, subst, arith, rules}
+use Rattle.std.proofs.Common.{◌≡◌, sym, ◌∙◌, arith, rules}
 use Rattle.tree_fs.specs.declared.name.Kind.TheVariants.{Absent}
 use Rattle.tree_fs.specs.Texts.{control_spot}
 use Rattle.tree_fs.specs.Disk.{kind_of}
@@ -13,5 +13,5 @@ loop-which-preserved g c =
       same = λ told. c.in_ok-kind.ensures.same told ∙ c.loop-which.invariant.same told;
       faults = omega (arith, c.in_ok-kind.ensures.cause.later);
       absent = λ told. all_next (λ which. kind_of (disk_of (g.T.Tree.story c.args.tree.now)) (control_spot which) ≡ Absent) _ c.loop-which.which-index _ c.loop-which-test.true (c.loop-which.invariant.absent told)
-        ((λ i. kind_of (disk_of (sym (c.loop-which.invariant.same told) i)) (sym c.control.ensures i)) ∙ sym (c.in_ok-kind.ensures.answer told) ∙ was_absent);
+          ((λ i. kind_of (disk_of (sym (c.loop-which.invariant.same told) i)) (sym c.control.ensures i)) ∙ sym (c.in_ok-kind.ensures.answer told) ∙ was_absent);
     }

@@ -1,4 +1,3 @@
-use Rattle.std.proofs.Common.{◌≡◌, ap, sym, ◌∙◌, subst}
 use Rattle.deploy_engine.proofs.Deciding.{is_built, no_folder, are_wins, are_flat}
 use Rattle.deploy_engine.proofs.decide.decide_flat.Goals as goal
 

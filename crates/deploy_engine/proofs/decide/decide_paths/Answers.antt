@@ -1,4 +1,3 @@
-use Rattle.std.proofs.Common.{◌≡◌, ap, sym, ◌∙◌, subst}
 use Rattle.deploy_engine.proofs.Deciding.{is_built, first_folder_of}
 use Rattle.deploy_engine.proofs.decide.decide_paths.Goals as goal
 

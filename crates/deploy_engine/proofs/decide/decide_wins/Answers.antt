@@ -1,6 +1,3 @@
-use Rattle.std.proofs.Common.{◌≡◌, ap, sym, ◌∙◌, subst}
-use Rattle.std.specs.Option.{MatchOption}
-use Rattle.tree_fs.specs.Story.{disk_of}
 use Rattle.deploy_engine.proofs.Deciding.{first_taken_of, free_paths}
 use Rattle.deploy_engine.proofs.decide.decide_wins.Goals as goal
 

@@ -1,4 +1,3 @@
-use Rattle.std.proofs.Common.{◌≡◌}
 use Rattle.tree_fs.specs.Story.{disk_of}
 use Rattle.tree_fs.proofs.Moments.{along_unchanged}
 use Rattle.deploy_engine.specs.Deployed.{IsBetween}

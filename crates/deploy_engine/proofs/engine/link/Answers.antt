@@ -1,4 +1,3 @@
-use Rattle.std.proofs.Common.{◌≡◌}
 use Rattle.deploy_engine.proofs.Speaking.{counts_wins}
 use Rattle.deploy_engine.proofs.engine.link.Goals as goal
 

@@ -1,4 +1,4 @@
-use Rattle.std.proofs.Common.{◌≡◌, inl, inr}
+use Rattle.std.proofs.Common.{inl, inr}
 use Rattle.deploy_engine.proofs.Speaking.{cut_off}
 use Rattle.deploy_engine.proofs.engine.run.Goals as goal
 

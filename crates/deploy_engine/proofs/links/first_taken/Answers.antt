@@ -1,4 +1,4 @@
-use Rattle.std.proofs.Common.{◌≡◌, ◌≢◌, ap, sym, ◌∙◌, subst, arith, rules, true}
+use Rattle.std.proofs.Common.{◌≢◌, ap, ◌∙◌, rules}
 use Rattle.tree_fs.specs.declared.name.Kind.TheVariants.{Absent}
 use Rattle.tree_fs.specs.Disk.{kind_of}
 use Rattle.tree_fs.specs.Spot.{spot_of}

@@ -1,4 +1,4 @@
-use Rattle.std.proofs.Common.{◌≡◌, ◌≤◌, take}
+use Rattle.std.proofs.Common.{◌≤◌, take}
 use Rattle.tree_fs.specs.Story.{Along, disk_of}
 use Rattle.deploy_engine.specs.Deployed.{IsBetween}
 use Rattle.deploy_engine.proofs.Linking.{Linked}

@@ -1,4 +1,4 @@
-use Rattle.std.proofs.Common.{◌≡◌, refl, sym, subst}
+use Rattle.std.proofs.Common.{refl, sym, subst}
 use Rattle.tree_fs.specs.Listing.{IsListing}
 use Rattle.tree_fs.specs.Places.{mod_spot}
 use Rattle.tree_fs.specs.Story.{disk_of}
@@ -9,8 +9,8 @@ pub returns-clause-answer : goal.returns-clause-answer
 returns-clause-answer g c = λ told.
     let d = disk_of (g.T.Tree.story c.args.tree.now) in
     let listing : IsListing d (mod_spot c.args.id) c.deref.result.now =
-      subst (λ l. IsListing d (mod_spot c.args.id) l) (sym c.deref.ensures.value)
-        (subst (λ q. IsListing d q c.in_ok-entries.entries.items) c.in_ok-folder.ensures (c.in_ok-entries.ensures.answer told)) in
+    subst (λ l. IsListing d (mod_spot c.args.id) l) (sym c.deref.ensures.value)
+    (subst (λ q. IsListing d q c.in_ok-entries.entries.items) c.in_ok-folder.ensures (c.in_ok-entries.ensures.answer told)) in
     let out = rw c.in-Some.is at c.in_ok-sorted.ensures in
     (refl, holds_flat d c.args.id _ listing _ (c.requires told) out)
 

@@ -1,4 +1,4 @@
-use Rattle.std.proofs.Common.{◌≡◌, take}
+use Rattle.std.proofs.Common.{take}
 use Rattle.deploy_engine.specs.Flat.{IsSortedOut}
 use Rattle.deploy_engine.proofs.staged.sort_out.Given as goal
 

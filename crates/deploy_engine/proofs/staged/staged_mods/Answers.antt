@@ -1,8 +1,6 @@
-use Rattle.std.proofs.Common.{◌≡◌, refl, sym, subst, ap, ◌∙◌, take, ◌≤◌, length, arith, map}
+use Rattle.std.proofs.Common.{◌≡◌, ap, ◌∙◌, take}
 use Rattle.std.proofs.lemmas.List.{take_all}
-use Rattle.tree_fs.specs.Listing.{IsListing}
-use Rattle.tree_fs.specs.Story.{disk_of}
-use Rattle.deploy_engine.specs.Flat.{mod_names, stage_spot}
+use Rattle.deploy_engine.specs.Flat.{mod_names}
 use Rattle.deploy_engine.proofs.ModsFound.{are_mods}
 use Rattle.deploy_engine.proofs.staged.staged_mods.Goals as goal
 

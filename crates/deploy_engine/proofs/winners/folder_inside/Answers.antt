@@ -1,4 +1,3 @@
-use Rattle.std.proofs.Common.{◌≡◌, sym, subst}
 use Rattle.tree_fs.proofs.Lists.{around}
 use Rattle.deploy_engine.proofs.winners.folder_inside.Goals as goal
 

@@ -1,4 +1,4 @@
-use Rattle.std.proofs.Common.{◌≡◌, ℕ, List, ap, sym, ◌∙◌, subst, Some, take, length, arith, refl, map, rules, append-nil, ◌++◌, ◌⊎◌, false}
+use Rattle.std.proofs.Common.{◌≡◌, ap, sym, ◌∙◌, subst, Some, refl, map, rules, append-nil, ◌++◌, ◌⊎◌, false}
 use Rattle.std.specs.List.{AllByRecursion, Contains}
 use Rattle.std.specs.List.Sorted.{IsStrictlySortedBy}
 use Rattle.std.specs.Ordering.{nat_cmp}
@@ -20,7 +20,7 @@ loop-path-init c =
     record {
       paths = rw c.new-wins.ensures.items refl;
       left = subst (AllByRecursion (λ e. IsLastWith mods e.0 e.1)) (sym start)
-        (all_weaken (λ e. get (slice_cmp nat_cmp) winners e.0 ≡ Some e.1) (λ e. IsLastWith mods e.0 e.1) winners.entries
+          (all_weaken (λ e. get (slice_cmp nat_cmp) winners e.0 ≡ Some e.1) (λ e. IsLastWith mods e.0 e.1) winners.entries
           (λ e found. subst (IsLastIndex mods e.0) found (c.in_ok-winners.ensures e.0))
           (recursion_from_All _ winners.entries c.iter-path-items.ensures.found));
       each = rw c.new-wins.ensures.items tt;
@@ -43,11 +43,11 @@ loop-path-preserved c =
     let made = c.in_ok-make_win.ensures in
     record {
       paths = rw c.in_ok-push.ensures.items
-        (more_paths c.loop-path.wins.items w c.in-Some.path.now c.in-Some.index.now c.next.new.self _ made.path
+          (more_paths c.loop-path.wins.items w c.in-Some.path.now c.in-Some.index.now c.next.new.self _ made.path
           (ap (λ l. map (λ w. w.path) c.loop-path.wins.items ++ map (λ e. e.0) l) (sym c.in-Some.ensures.steps) ∙ c.loop-path.invariant.paths));
       left = left.1;
       each = rw c.in_ok-push.ensures.items
-        (all_more (IsWinOf c.args.mods.now) c.loop-path.wins.items w c.loop-path.invariant.each
+          (all_more (IsWinOf c.args.mods.now) c.loop-path.wins.items w c.loop-path.invariant.each
           (win_of c.args.mods.now w c.in-Some.path.now c.in-Some.index.now c.index-mods-index.result made.path left.0 c.index-mods-index.is (made.from ∙ ap (λ (m : FlatMod). staged_spot m.id c.in-Some.path.now) (sym c.index-mods-index.is)) made.to));
     }
 
@@ -56,8 +56,8 @@ returns c =
     let winners = c.in_ok-winners.winners in
     let start : c.into_iter-path-iterator.result ≡ winners.entries = search rules in
     let all : map (λ w. w.path) c.loop-path.wins.items ≡ map (λ e. e.0) winners.entries =
-      sym (append-nil (map (λ w. w.path) c.loop-path.wins.items)) ∙ ap (λ l. map (λ w. w.path) c.loop-path.wins.items ++ map (λ e. e.0) l) (sym c.in-None.ensures.steps.0)
-      ∙ c.loop-path.invariant.paths ∙ ap (map (λ e. e.0)) start in
+    sym (append-nil (map (λ w. w.path) c.loop-path.wins.items)) ∙ ap (λ l. map (λ w. w.path) c.loop-path.wins.items ++ map (λ e. e.0) l) (sym c.in-None.ensures.steps.0)
+    ∙ c.loop-path.invariant.paths ∙ ap (map (λ e. e.0)) start in
     record {
       order = subst (IsStrictlySortedBy (slice_cmp nat_cmp)) (sym all) c.iter-path-items.ensures.ordered;
       each = c.loop-path.invariant.each;
