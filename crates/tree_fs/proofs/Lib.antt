@@ -12,5 +12,7 @@ pub mod Stories
 pub mod Moments
 pub mod Texts
 pub mod Parses
+pub mod Parts
 pub mod Listings
 pub mod PlaceSpots
+pub mod NewFiles

@@ -1,5 +1,5 @@
 -- Stories: what comes after what.
-use Rattle.std.proofs.Common.{◌≡◌, ◌⊎◌, ℕ, Bool, true, false, List, [], ◌∷◌, ◌++◌, refl, sym, ap, ◌∙◌, inl, inr, subst, append_assoc, append-nil}
+use Rattle.std.proofs.Common.{◌≡◌, ◌⊎◌, ℕ, Bool, true, false, List, [], ◌∷◌, ◌++◌, refl, sym, ap, ◌∙◌, inl, inr, subst, append_assoc, append-nil, IfOk}
 use Rattle.std.proofs.lemmas.List.{append_cancel_left}
 use Rattle.std.specs.declared.result.Result.{Result}
 use Rattle.std.specs.declared.result.Result.TheVariants.{Ok, Err}
@@ -62,3 +62,13 @@ AddsOne-keeps P op old new result adds here done not_done = elim (disk_of-any op
 pub disk_of-new : {T : Type 0} (at : Place) (bytes : List ℕ) (old new : Story) (answer : T) → AddsNew at bytes old new (Ok answer)
     → disk_of new ≡ after (after (disk_of old) (Create at true)) (Fill at bytes true)
 disk_of-new at bytes old new answer adds = disk_of-goes_on old new (Create at true ∷ Fill at bytes true ∷ []) adds.ok
+
+-- a fact of the disk after the step, where the call answered Ok
+pub AddsOne-if_ok : {T : Type 0} (P : Disk → Type 0) (op : Bool → Op) (old new : Story) (result : Result T TreeError) → AddsOne op old new result → P (after (disk_of old) (op true)) → IfOk result (λ _. P (disk_of new))
+AddsOne-if_ok P op old new (Ok answer) adds h = subst P (sym (disk_of-ok op old new answer adds)) h
+AddsOne-if_ok P op old new (Err e) adds h = tt
+
+pub AddsNew-if_ok : {T : Type 0} (P : Disk → Type 0) (at : Place) (bytes : List ℕ) (old new : Story) (result : Result T TreeError) → AddsNew at bytes old new result
+    → P (after (after (disk_of old) (Create at true)) (Fill at bytes true)) → IfOk result (λ _. P (disk_of new))
+AddsNew-if_ok P at bytes old new (Ok answer) adds h = subst P (sym (disk_of-new at bytes old new answer adds)) h
+AddsNew-if_ok P at bytes old new (Err e) adds h = tt
