@@ -1,5 +1,5 @@
 -- The first names of a text, told by its first bytes.
-use Rattle.std.proofs.Common.{◌≡◌, ℕ, Bool, true, false, ◌&&◌, ◌==◌, List, [], ◌∷◌, ◌++◌, ◌⊎◌, inl, inr, get_or, length, drop, refl, sym, ap, ◌∙◌, append_assoc, arith}
+use Rattle.std.proofs.Common.{◌≡◌, ℕ, true, false, ◌&&◌, ◌==◌, List, [], ◌∷◌, ◌++◌, ◌⊎◌, inl, inr, get_or, length, drop, refl, sym, ap, ◌∙◌, arith}
 use Rattle.std.specs.List.{starts_with}
 use Rattle.std.specs.Str.{bytes_eq}
 use Rattle.std.proofs.lemmas.List.{append-nil}
@@ -7,12 +7,8 @@ use Rattle.std.proofs.lemmas.List.Prefix.{front_rest}
 use Rattle.std.proofs.lemmas.Bool.Decides.{eqb_tells, nat_tests, same_from_decides, Decides-like}
 use Rattle.std.proofs.lemmas.Slice.Eq.{starts_is, bytes_eq-Decides}
 use Rattle.rel_paths.specs.Names.{names_of, text_of, begins_with_manifest, manifest_name}
-use Rattle.rel_paths.proofs.NamesOf.{has_names, names_of-between, text_of-names_of}
-
--- the text of names that follow others stands behind a slash
-pub text_of-append : (n : List ℕ) (ns : List (List ℕ)) (m : List ℕ) (ms : List (List ℕ)) → text_of ((n ∷ ns) ++ m ∷ ms) ≡ text_of (n ∷ ns) ++ 47 ∷ text_of (m ∷ ms)
-text_of-append n [] m ms = refl
-text_of-append n (k ∷ ks) m ms = ap (λ t. n ++ 47 ∷ t) (text_of-append k ks m ms) ∙ sym (append_assoc n (47 ∷ text_of (k ∷ ks)) (47 ∷ text_of (m ∷ ms)))
+use Rattle.rel_paths.proofs.Tests.{and_true}
+use Rattle.rel_paths.proofs.NamesOf.{has_names, names_of-between, text_of-names_of, text_of-append}
 
 -- whose first names are those of another text is that text, or that text with a slash behind
 first_names : (text other : List ℕ) (ns : List (List ℕ)) → names_of text ≡ names_of other ++ ns → (text ≡ other) ⊎ ((rest : List ℕ) × (text ≡ other ++ 47 ∷ rest))
@@ -67,10 +63,6 @@ starts_with-behind_none text other (b ∷ bs) e h = let never : ⊥ = grind (ari
 pub starts_with-behind_some : (text other rest : List ℕ) → text ≡ other ++ rest → (length rest == 0) ≡ false → starts_with bytes_eq (names_of text) (names_of other) ≡ (get_or rest 0 0 == 47)
 starts_with-behind_some text other [] e h = let never : ⊥ = grind (arith, nat_tests) in absurd never
 starts_with-behind_some text other (b ∷ bs) e h = starts_with-behind text other b bs e
-
-and_true : (b : Bool) → (b && true) ≡ b
-and_true true = refl
-and_true false = refl
 
 same_test : (m n : List ℕ) → (bytes_eq m n && true) ≡ bytes_eq n m
 same_test m n =

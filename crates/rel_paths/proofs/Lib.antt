@@ -1,3 +1,7 @@
+pub mod Tests
 pub mod NamesOf
-pub mod Limits
 pub mod First
+pub mod Limits
+pub mod OneName
+pub mod Parents
+pub mod Backups

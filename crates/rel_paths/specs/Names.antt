@@ -1,4 +1,4 @@
-use Rattle.std.specs.Prelude.{◌≡◌, ℕ, ◌==◌, Bool, false, not, ◌&&◌, ◌||◌, nat_lt, nat_le, nat_eq, if◌then◌else◌, List, [], ◌∷◌, length, position, codes}
+use Rattle.std.specs.Prelude.{◌≡◌, ℕ, ◌-◌, ◌==◌, Bool, false, not, ◌&&◌, ◌||◌, nat_lt, nat_le, nat_eq, if◌then◌else◌, List, [], ◌∷◌, ◌++◌, length, take, position, codes}
 use Rattle.std.specs.List.{slice_split, list_all, list_any, join_with_byte, ends_with}
 use Rattle.std.specs.Str.{bytes_eq}
 use Rattle.std.specs.declared.option.Option.{Option}
@@ -64,6 +64,14 @@ abbrev pub Explains : PathError → Option PathError → Type 0
 Explains Memory fault = Unit {0}
 Explains e fault = fault ≡ Some e
 
+-- the text with the names of the one and then those of the other
+abbrev pub joined : List ℕ → List ℕ → List ℕ
+joined above below = text_of (names_of above ++ names_of below)
+
+-- the names of a path's parent, where it has one
+abbrev pub parent_names : List (List ℕ) → Option (List (List ℕ))
+parent_names names = if length names == 1 then None else Some (take (length names - 1) names)
+
 -- the ending of a backup's name, `.vortex_backup`
 abbrev pub backup_ending : List ℕ
 backup_ending = codes ".vortex_backup"
@@ -71,6 +79,12 @@ backup_ending = codes ".vortex_backup"
 -- the manifest's name, `vortex.deployment.json`
 abbrev pub manifest_name : List ℕ
 manifest_name = codes "vortex.deployment.json"
+
+-- the names of a path's backup: the last one has the ending
+abbrev pub backup_names : List (List ℕ) → List (List ℕ)
+backup_names [] = []
+backup_names (n ∷ []) = (n ++ backup_ending) ∷ []
+backup_names (n ∷ m ∷ ns) = n ∷ backup_names (m ∷ ns)
 
 -- whether some name is that of a backup
 abbrev pub has_backup : List (List ℕ) → Bool

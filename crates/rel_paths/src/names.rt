@@ -1,10 +1,12 @@
 // The names of a path's text, and the faults of a text.
-ghost use Rattle.std.specs.Prelude.{◌≡◌, length, nat_eq, not, position};
+ghost use Rattle.std.specs.Prelude.{◌≡◌, ◌++◌, IfOk, length, nat_eq, not, position};
 ghost use Rattle.std.specs.List.{ends_with, list_all, starts_with};
 ghost use Rattle.std.specs.Str.{bytes_eq};
-ghost use Rattle.rel_paths.specs.Names.{names_of, is_good_byte, is_good_name, is_name_within, path_fault, backup_ending, has_backup, is_reserved};
+ghost use Rattle.std.specs.String.{string_bytes};
+ghost use Rattle.rel_paths.specs.Names.{names_of, is_good_byte, is_good_name, is_name_within, path_fault, backup_ending, has_backup, is_reserved, joined};
 
 use crate::PathError;
+use std::alloc::{AllocError, Global};
 
 // How many bytes and names a path's text may have, and how many bytes each of its names.
 pub(crate) struct Limits {
@@ -109,4 +111,25 @@ pub(crate) fn is_reserved(text: &str) -> bool
     ensures { result ≡ is_reserved (names_of text.now) }
 {
     has_backup(text) || begins_with(text, "vortex.deployment.json")
+}
+
+// The text with the names of the one and then those of the other.
+pub(crate) fn joined(alloc: Global, above: &str, below: &str) -> Result<String, AllocError>
+    ensures { IfOk result (λ text. string_bytes text ≡ joined above.now below.now) }
+{
+    let mut text = String::with_capacity(alloc, above.len() + 1 + below.len())?;
+    text.push_str(above)?;
+    text.push('/')?;
+    text.push_str(below)?;
+    Ok(text)
+}
+
+// The text of the backup.
+pub(crate) fn backup(alloc: Global, text: &str) -> Result<String, AllocError>
+    ensures { IfOk result (λ backup. string_bytes backup ≡ text.now ++ backup_ending) }
+{
+    let mut backup = String::with_capacity(alloc, text.len() + BACKUP_ENDING.len())?;
+    backup.push_str(text)?;
+    backup.push_str(BACKUP_ENDING)?;
+    Ok(backup)
 }

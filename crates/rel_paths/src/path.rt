@@ -1,12 +1,14 @@
 // A path below a root.
-ghost use Rattle.std.specs.Prelude.{◌≡◌, IfOk, IfErr, IfSome, Some, nat_eq, refl};
+ghost use Rattle.std.specs.Prelude.{◌≡◌, ◌++◌, ◌↔◌, IsTrue, option_map, IfOk, IfErr, IfSome, Some, nat_eq, refl};
 ghost use Rattle.std.specs.Ordering.{nat_cmp};
 ghost use Rattle.std.specs.Hash as fed;
 ghost use Rattle.std.specs.Cmp.Lexicographic.{pointwise, slice_cmp, nat_list_eq_equiv, nat_list_cmp_total, texts_ties, texts_po};
 ghost use Rattle.std.specs.Cmp.{partial_equiv_from_equiv};
 ghost use Rattle.std.specs.Cmp.Rules.{hashing};
 ghost use Rattle.std.proofs.Common.{rules};
-ghost use Rattle.rel_paths.specs.Names.{names_of, is_reserved, path_fault, user_limits, IsUserPath, IsHeldPath, Explains};
+ghost use Rattle.std.specs.List.{starts_with};
+ghost use Rattle.std.specs.Str.{bytes_eq};
+ghost use Rattle.rel_paths.specs.Names.{names_of, is_reserved, path_fault, user_limits, held_limits, joined, parent_names, backup_names, IsUserPath, IsHeldPath, Explains};
 ghost use Rattle.rel_paths.specs.Controls.{control_path};
 
 use crate::{Control, PathError, names};
@@ -60,6 +62,22 @@ impl RelPath {
         }
     }
 
+    /// The held path with this text: 1 to 72 good names of at most 254 bytes each, joined by `/`,
+    /// with at most 1,400 bytes in all. A text that is none gives its first fault.
+    pub fn parse_held(alloc: Global, text: &str) -> Result<RelPath, PathError>
+        ensures same { IfOk result (λ path. path ≡ text.now) }
+        ensures held { IfOk result (λ path. IsHeldPath path) }
+        ensures err { IfErr result (λ e. Explains e (path_fault held_limits text.now)) }
+        ensures fault { IfSome (path_fault held_limits text.now) (λ e. result ≡ Err e) }
+    {
+        match names::path_fault(&names::HELD, text) {
+            Some(fault) => Err(fault),
+            None => Ok(RelPath {
+                text: Text::Own(text.to_string(alloc)?),
+            }),
+        }
+    }
+
     /// The path of a control place below its root. It takes no memory.
     pub fn control(which: Control) -> RelPath
         ensures { result ≡ control_path which }
@@ -80,6 +98,41 @@ impl RelPath {
         Ok(RelPath { text })
     }
 
+    /// The path of this path's names and then those of `below`, which has to be within the limits
+    /// of a held path.
+    pub fn join(&self, alloc: Global, below: &RelPath) -> Result<RelPath, AllocError>
+        requires { IsHeldPath (joined self.now below.now) }
+        ensures { IfOk result (λ path. names_of path ≡ names_of self.now ++ names_of below.now) }
+    {
+        let text = names::joined(alloc, self.text(), below.text())?;
+        Ok(RelPath {
+            text: Text::Own(text),
+        })
+    }
+
+    /// The path of all names but the last. A path of one name has none.
+    pub fn parent(&self, alloc: Global) -> Result<Option<RelPath>, AllocError>
+        ensures { IfOk result (λ parent. option_map names_of parent ≡ parent_names (names_of self.now)) }
+    {
+        match self.text().rsplit_once('/') {
+            None => Ok(None),
+            Some((above, _)) => Ok(Some(RelPath {
+                text: Text::Own(above.to_string(alloc)?),
+            })),
+        }
+    }
+
+    /// The path of this user path's backup: `.vortex_backup` stands behind its last name.
+    pub fn backup_name(&self, alloc: Global) -> Result<RelPath, AllocError>
+        requires { IsUserPath self.now }
+        ensures { IfOk result (λ path. names_of path ≡ backup_names (names_of self.now)) }
+    {
+        let text = names::backup(alloc, self.text())?;
+        Ok(RelPath {
+            text: Text::Own(text),
+        })
+    }
+
     /// The names, joined by `/`.
     pub fn text(&self) -> &str
         ensures same { result.now ≡ self.now }
@@ -89,6 +142,20 @@ impl RelPath {
             Text::Own(text) => text.as_str(),
             Text::Control(which) => control_text(*which),
         }
+    }
+
+    /// Whether the names of `other` are the first names of this path.
+    pub fn starts_with(&self, other: &RelPath) -> bool
+        ensures { result ≡ starts_with bytes_eq (names_of self.now) (names_of other.now) }
+    {
+        names::begins_with(self.text(), other.text())
+    }
+
+    /// Whether it is a user path.
+    pub fn is_user(&self) -> bool
+        ensures { IsTrue result ↔ IsUserPath self.now }
+    {
+        names::path_fault(&names::USER, self.text()).is_none()
     }
 
     /// Whether some name is that of a backup, or the first name is the manifest's.

@@ -113,12 +113,12 @@ pub file-number : (d : Disk) (q : Spot) (n : ℕ) → IsValid d → d.now q ≡ 
 file-number d q n valid e = valid.numbers q n (inl (sym e))
 
 -- a new value may come where there is no folder, but in one
-pub record CanPut_value (d : Disk) (p : Spot) (v : Value) : Type 0 where
+pub record TakesValue (d : Disk) (p : Spot) (v : Value) : Type 0 where
   pub no_folder : d.folders p ≡ false
   pub in_folder : (v ≢ none) → d.folders (parent p) ≡ true
   pub number : (n : ℕ) → v ≡ file n → n < d.fresh
 
-pub valid-put : (d : Disk) (p : Spot) (v : Value) → IsValid d → CanPut_value d p v → IsValid (put d p v)
+pub valid-put : (d : Disk) (p : Spot) (v : Value) → IsValid d → TakesValue d p v → IsValid (put d p v)
 valid-put d p v valid can = record {
   roots = valid.roots;
   nested = valid.nested;

@@ -1,7 +1,11 @@
 -- What a stop leaves after an op, in the words of before it.
-use Rattle.std.proofs.Common.{◌≡◌, ◌≢◌, ◌⊎◌, ℕ, ◌<◌, Bool, true, false, [], refl, sym, ap, ◌∙◌, inl, inr, subst}
-use Rattle.tree_fs.specs.Spot.{Spot}
-use Rattle.tree_fs.specs.Disk.{Disk, Value, none, file, MayHold, NothingPending, IsValid, Image, put, synced}
+use Rattle.std.proofs.Common.{◌≡◌, ◌≢◌, ◌⊎◌, ℕ, ◌<◌, Bool, true, false, List, [], refl, sym, ap, ◌∙◌, inl, inr, subst}
+use Rattle.tree_fs.specs.declared.op.Op.TheVariants.{Create}
+use Rattle.tree_fs.specs.declared.place.Place.{Place}
+use Rattle.tree_fs.specs.Spot.{Spot, spot_of}
+use Rattle.tree_fs.specs.Disk.{Disk, Value, none, file, MayHold, NothingPending, IsValid, Image, put, synced, filled, made_firm, renamed, after}
+use Rattle.tree_fs.proofs.Ops.{MayHold-created, firm-created_other, bytes-created_other, MayHold-renamed, renamed-files}
+use Rattle.tree_fs.proofs.Files.{made_firm-places, same_places-hold, firm-made_keeps, bytes-made_firm, firm-filled_other, bytes-filled_other}
 use Rattle.tree_fs.proofs.Spots.{same_or_other}
 use Rattle.tree_fs.proofs.Disks.{MayHold-put_other, MayHold-put_at, MayHold-synced, MayHold-settled}
 
@@ -88,3 +92,28 @@ Image-put d left p v plain image = elim (MayHold-put_at d p v (left.now p) (imag
 -- away from the new value, what a stop leaves is what it left before
 pub Image-put_other : (d left : Disk) (p q : Spot) (v : Value) → q ≢ p → d.folders q ≡ false → Image (put d p v) left → MayHold d q (left.now q)
 Image-put_other d left p q v ne no_folder image = MayHold-put_other d p q v (left.now q) ne (image.value q no_folder)
+
+-- an image once a file is firm is one from before it
+pub Image-made_firm : (d left : Disk) (v : Value) → Image (made_firm d v) left → Image d left
+Image-made_firm d left v image =
+    let same = made_firm-places d v in
+    Image-less d (made_firm d v) left same.folders (λ q w h. same_places-hold d (made_firm d v) q w same h) (λ n e. (firm-made_keeps d v n e, ap (λ f. f n) (bytes-made_firm d v))) same.fresh image
+
+-- a file that isn't firm may have any bytes, so new bytes leave no new image
+pub Image-filled : (d left : Disk) (n : ℕ) (bytes : List ℕ) → d.firm n ≡ false → Image (filled d (file n) bytes) left → Image d left
+Image-filled d left n bytes soft image =
+    Image-less d (filled d (file n) bytes) left refl (λ q v h. h) (λ k e.
+    let ne : k ≢ n = λ is. let h : true ≡ false = sym e ∙ ap d.firm is ∙ soft in cc in
+    (firm-filled_other d n k bytes ne ∙ e, bytes-filled_other d n k bytes ne)) refl image
+
+-- a place with a new file has it after a stop, or what it had before
+pub Image-created : (d left : Disk) (at : Place) (q : Spot) → Image (after d (Create at true)) left → d.folders q ≡ false → ((q ≡ spot_of at) × (left.now q ≡ file d.fresh)) ⊎ MayHold d q (left.now q)
+Image-created d left at q image no_folder = MayHold-created d at q (left.now q) (image.value q no_folder)
+
+-- the files of before keep their bytes where they were firm
+pub Image-created_bytes : (d left : Disk) (at : Place) (n : ℕ) → Image (after d (Create at true)) left → n < d.fresh → d.firm n ≡ true → left.bytes n ≡ d.bytes n
+Image-created_bytes d left at n image lt firm = image.bytes n (firm-created_other d at n lt ∙ firm) ∙ bytes-created_other d at n lt
+
+-- after a rename a place has what it had, or the file at its new place, or none at its old
+pub Image-renamed : (d left : Disk) (from to q : Spot) → Image (renamed d from to) left → d.folders q ≡ false → ((q ≡ to) × (left.now q ≡ d.now from)) ⊎ ((q ≡ from) × (left.now q ≡ none)) ⊎ MayHold d q (left.now q)
+Image-renamed d left from to q image no_folder = MayHold-renamed d from to q (left.now q) (image.value q (ap (λ f. f q) (renamed-files d from to).folders ∙ no_folder))

@@ -1,10 +1,15 @@
+pub mod Lists
 pub mod Spots
 pub mod Functions
 pub mod Disks
 pub mod KindOf
 pub mod Ops
+pub mod Files
+pub mod Folders
+pub mod Growth
 pub mod Images
 pub mod Stories
 pub mod Moments
-pub mod Lists
 pub mod Texts
+pub mod Parses
+pub mod Parts

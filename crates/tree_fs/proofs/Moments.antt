@@ -1,11 +1,14 @@
 -- Facts of every disk along a story.
-use Rattle.std.proofs.Common.{◌≡◌, Bool, true, false, List, [], ◌∷◌, ◌++◌, refl, sym, ap, ◌∙◌, inl, inr, subst}
+use Rattle.std.proofs.Common.{◌≡◌, ℕ, Bool, true, false, List, [], ◌∷◌, ◌++◌, refl, sym, ap, ◌∙◌, inl, inr, subst, append-nil}
 use Rattle.std.specs.declared.result.Result.{Result}
+use Rattle.std.specs.declared.result.Result.TheVariants.{Ok, Err}
 use Rattle.tree_fs.specs.declared.op.Op.{Op}
 use Rattle.tree_fs.specs.declared.tree.TreeError.{TreeError}
 use Rattle.tree_fs.specs.Disk.{Disk, after, after_all}
 use Rattle.tree_fs.specs.Story.{Story, disk_of, with_ops, Through, Along}
-use Rattle.tree_fs.specs.Calls.{AddsOne}
+use Rattle.tree_fs.specs.declared.op.Op.TheVariants.{Create, Fill}
+use Rattle.tree_fs.specs.declared.place.Place.{Place}
+use Rattle.tree_fs.specs.Calls.{AddsMaybe, AddsOne, AddsNew}
 use Rattle.tree_fs.proofs.Stories.{with_ops-none, with_ops-append, with_ops-same, disk_of-goes_on, AddsOne-maybe}
 
 -- Through
@@ -82,16 +85,42 @@ along_both P Q s t a b =
     let e : b.ops ≡ a.ops = with_ops-same s b.ops a.ops (sym b.goes_on ∙ a.goes_on) in
     record { ops = a.ops; goes_on = a.goes_on; each = through_both P Q (disk_of s) a.ops a.each (subst (λ l. Through Q (disk_of s) l) e b.each) }
 
--- a call of the tree: the fact holds before it, and after its step, done or not
-pub along_adds : {T : Type 0} (P : Disk → Type 0) (op : Bool → Op) (s t : Story) (result : Result T TreeError) → AddsOne op s t result
-    → P (disk_of s) → P (after (disk_of s) (op true)) → P (after (disk_of s) (op false)) → Along P s t
-along_adds P op s t result adds here done not_done = elim (AddsOne-maybe op s t result adds) [
+along_maybe : (P : Disk → Type 0) (op : Bool → Op) (s t : Story) → AddsMaybe op s t → P (disk_of s) → P (after (disk_of s) (op true)) → P (after (disk_of s) (op false)) → Along P s t
+along_maybe P op s t adds here done not_done = elim adds [
   | inl nothing ↦ subst (λ u. Along P s u) (sym nothing) (along_here P s here)
   | inr step ↦ elim step [
     | inl is ↦ along_op P (op true) s t is here done
     | inr is ↦ along_op P (op false) s t is here not_done
   ]
 ]
+
+-- a call of the tree: the fact holds before it, and after its step, done or not
+pub along_adds : {T : Type 0} (P : Disk → Type 0) (op : Bool → Op) (s t : Story) (result : Result T TreeError) → AddsOne op s t result
+    → P (disk_of s) → P (after (disk_of s) (op true)) → P (after (disk_of s) (op false)) → Along P s t
+along_adds P op s t result adds here done not_done = along_maybe P op s t (AddsOne-maybe op s t result adds) here done not_done
+
+-- a call that makes a file: the fact holds before it, of the new file without bytes, and with any first part of them
+pub along_new : {T : Type 0} (P : Disk → Type 0) (at : Place) (bytes : List ℕ) (s t : Story) (result : Result T TreeError) → AddsNew at bytes s t result
+    → P (disk_of s) → P (after (disk_of s) (Create at true))
+    → ((front rest : List ℕ) → bytes ≡ front ++ rest → P (after (after (disk_of s) (Create at true)) (Fill at front true)))
+    → Along P s t
+along_new P at bytes s t (Ok answer) adds here made with = record {
+  ops = Create at true ∷ Fill at bytes true ∷ [];
+  goes_on = adds.ok;
+  each = (here, (made, with bytes [] (sym (append-nil bytes))));
+}
+along_new P at bytes s t (Err e) adds here made with = elim adds.err [
+  | inl first ↦ along_maybe P (Create at) s t first here made here
+  | inr part ↦ record {
+    ops = Create at true ∷ Fill at part.front part.done ∷ [];
+    goes_on = part.adds;
+    each = (here, (made, with_part part.front part.rest part.parts part.done));
+  }
+]
+  where
+    with_part : (front rest : List ℕ) → bytes ≡ front ++ rest → (done : Bool) → P (after (after (disk_of s) (Create at true)) (Fill at front done))
+    with_part front rest is true = with front rest is
+    with_part front rest is false = made
 
 -- one call more
 pub along_then : {T : Type 0} (P : Disk → Type 0) (op : Bool → Op) (s t u : Story) (result : Result T TreeError) → Along P s t → AddsOne op t u result

@@ -1,5 +1,5 @@
 -- Stories: what comes after what.
-use Rattle.std.proofs.Common.{◌≡◌, ◌⊎◌, Bool, true, false, List, [], ◌∷◌, ◌++◌, refl, sym, ap, ◌∙◌, inl, inr, subst, append_assoc, append-nil}
+use Rattle.std.proofs.Common.{◌≡◌, ◌⊎◌, ℕ, Bool, true, false, List, [], ◌∷◌, ◌++◌, refl, sym, ap, ◌∙◌, inl, inr, subst, append_assoc, append-nil}
 use Rattle.std.proofs.lemmas.List.{append_cancel_left}
 use Rattle.std.specs.declared.result.Result.{Result}
 use Rattle.std.specs.declared.result.Result.TheVariants.{Ok, Err}
@@ -7,7 +7,9 @@ use Rattle.tree_fs.specs.declared.op.Op.{Op}
 use Rattle.tree_fs.specs.declared.tree.TreeError.{TreeError}
 use Rattle.tree_fs.specs.Disk.{Disk, after, after_all}
 use Rattle.tree_fs.specs.Story.{Story, disk_of, with_ops}
-use Rattle.tree_fs.specs.Calls.{AddsMaybe, AddsOne}
+use Rattle.tree_fs.specs.declared.op.Op.TheVariants.{Create, Fill}
+use Rattle.tree_fs.specs.declared.place.Place.{Place}
+use Rattle.tree_fs.specs.Calls.{AddsMaybe, AddsOne, AddsNew}
 
 pub after_all-append : (d : Disk) (a b : List Op) → after_all d (a ++ b) ≡ after_all (after_all d a) b
 after_all-append d [] b = refl
@@ -55,3 +57,8 @@ AddsOne-keeps P op old new result adds here done not_done = elim (disk_of-any op
   | inl e ↦ subst P (sym e) here
   | inr step ↦ elim step [ inl e ↦ subst P (sym e) done | inr e ↦ subst P (sym e) not_done ]
 ]
+
+-- the disk after a call that made a file with these bytes and answered Ok
+pub disk_of-new : {T : Type 0} (at : Place) (bytes : List ℕ) (old new : Story) (answer : T) → AddsNew at bytes old new (Ok answer)
+    → disk_of new ≡ after (after (disk_of old) (Create at true)) (Fill at bytes true)
+disk_of-new at bytes old new answer adds = disk_of-goes_on old new (Create at true ∷ Fill at bytes true ∷ []) adds.ok

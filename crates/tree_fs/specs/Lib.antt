@@ -6,3 +6,4 @@ pub mod Story
 pub mod Calls
 pub mod Listing
 pub mod Texts
+pub mod Parts

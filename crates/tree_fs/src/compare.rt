@@ -3,11 +3,15 @@ ghost use Rattle.std.specs.Prelude.{◌≡◌, Some, nat_eq, refl};
 ghost use Rattle.std.specs.Ordering.{on, nat_cmp};
 ghost use Rattle.std.specs.Cmp.Lexicographic.{pointwise, slice_cmp, on_texts, on_texts_equal, texts_ties, texts_po};
 ghost use Rattle.std.specs.Cmp.{partial_equiv_from_equiv, on_po};
-ghost use Rattle.tree_fs.specs.Texts.{rel_text, place_text};
+ghost use Rattle.tree_fs.specs.Texts.{rel_text, place_text, text_writes};
+ghost use Rattle.std.specs.Hash.{on_Alike, same_Alike};
+ghost use Rattle.std.proofs.lemmas.Slice.Eq.{bytes_eq-Decides};
 
 use crate::Place;
 use rel_paths::RelPath;
 use std::cmp::Ordering;
+use std::fmt;
+use std::hash::{Hash, Hasher};
 
 impl PartialEq for Place {
     ghost eq = { on place_text (pointwise nat_eq) };
@@ -49,6 +53,40 @@ impl Ord for Place {
         } else {
             self.root.word().cmp(other.root.word())
         }
+    }
+}
+
+impl Hash for Place {
+    ghost hash_input = { λ place. text_writes (place_text place) };
+
+    ghost respects_eq = { (on_Alike place_text (same_Alike text_writes bytes_eq-Decides)).fed };
+
+    #[tactic(auto, unfolding(crate::specs::Texts::text_writes))]
+    fn hash<H: Hasher>(&self, state: &mut H) {
+        self.root.word().hash(state);
+        if let Some(path) = &self.rel {
+            path.hash(state);
+        }
+    }
+}
+
+impl fmt::Debug for Place {
+    fn fmt<W: fmt::Write>(&self, f: &mut fmt::Formatter<W>) -> fmt::Result {
+        write!(f, "{self}")
+    }
+}
+
+/// The text.
+impl fmt::Display for Place {
+    ghost output = { λ place. Some (place_text place) };
+
+    fn fmt<W: fmt::Write>(&self, f: &mut fmt::Formatter<W>) -> fmt::Result {
+        f.write_str(self.root.word())?;
+        if let Some(path) = &self.rel {
+            f.write_str("/")?;
+            f.write_str(path.text())?;
+        }
+        Ok(())
     }
 }
 

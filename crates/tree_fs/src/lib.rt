@@ -15,3 +15,6 @@ pub use name::{Entry, Kind, Name};
 pub use op::{Bytes, Op};
 pub use place::{Place, Root};
 pub use tree::{Tree, TreeError};
+
+#[cfg(test)]
+mod tests;

@@ -1,4 +1,6 @@
 // What a tree was asked to do.
+ghost use Rattle.std.specs.Prelude.{◌≡◌};
+
 use crate::Place;
 use std::marker::Model;
 
@@ -14,6 +16,29 @@ impl Model for Bytes {
     ghost Value = { List ℕ };
 
     ghost view = { λ a. a.items.items };
+}
+
+impl Bytes {
+    /// These bytes. It takes no memory.
+    pub fn from_vec(items: Vec<u8>) -> Bytes
+        ensures { result ≡ items.items }
+    {
+        Bytes { items }
+    }
+
+    /// The bytes, given back without taking memory.
+    pub fn into_vec(self) -> Vec<u8>
+        ensures { result.items ≡ self }
+    {
+        self.items
+    }
+
+    /// The bytes.
+    pub fn as_slice(&self) -> &[u8]
+        ensures { result.now ≡ self.now }
+    {
+        self.items.as_slice()
+    }
 }
 
 /// One step of a tree. A step that is not `done` had no effect.

@@ -1,12 +1,14 @@
 // A place: a root, or a path below one.
-ghost use Rattle.std.specs.Prelude.{◌≡◌, IfOk};
+ghost use Rattle.std.specs.Prelude.{◌≡◌, IfOk, IfErr, IfSome, Some, Err, ◌∷◌, ◌++◌};
+ghost use Rattle.std.specs.Option.{option_map};
 ghost use Rattle.std.specs.String.{string_bytes};
-ghost use Rattle.rel_paths.specs.Names.{IsUserPath};
+ghost use Rattle.rel_paths.specs.Names.{IsUserPath, IsModId, Explains};
+ghost use Rattle.rel_paths.specs.declared.error.PathError.TheVariants.{Memory};
 ghost use Rattle.tree_fs.specs.Spot.{spot_of};
-ghost use Rattle.tree_fs.specs.Places.{game_spot, mod_spot};
-ghost use Rattle.tree_fs.specs.Texts.{root_word, place_text, control_spot};
+ghost use Rattle.tree_fs.specs.Places.{game_spot, mod_spot, staged_spot, folder_above};
+ghost use Rattle.tree_fs.specs.Texts.{root_word, root_named, place_text, place_fault, rel_fault, control_spot};
 
-use rel_paths::{Control, ModId, RelPath};
+use rel_paths::{Control, ModId, PathError, RelPath};
 use std::alloc::{AllocError, Global};
 
 /// One of the three folders that the engine works in.
@@ -31,6 +33,18 @@ impl Root {
             Root::Keep => "keep",
         }
     }
+
+    /// The root of this name.
+    pub fn named(word: &str) -> Option<Root>
+        ensures { result ≡ root_named word.now }
+    {
+        match word {
+            "stage" => Some(Root::Stage),
+            "game" => Some(Root::Game),
+            "keep" => Some(Root::Keep),
+            _ => None,
+        }
+    }
 }
 
 /// A place of a file system: a root, or what has a path below it.
@@ -49,6 +63,28 @@ impl Place {
         Ok(Place {
             root: Root::Game,
             rel: Some(path.copy()?),
+        })
+    }
+
+    /// The folder that a mod is unpacked in.
+    pub fn mod_folder(alloc: Global, id: &ModId) -> Result<Place, AllocError>
+        ensures { IfOk result (λ place. spot_of place ≡ mod_spot id.now) }
+    {
+        Ok(Place {
+            root: Root::Stage,
+            rel: Some(id_path(alloc, id)?),
+        })
+    }
+
+    /// The place of a mod's file, by its path in the mod.
+    pub fn staged(alloc: Global, id: &ModId, path: &RelPath) -> Result<Place, AllocError>
+        requires { IsUserPath path.now }
+        ensures { IfOk result (λ place. spot_of place ≡ staged_spot id.now path.now) }
+    {
+        let folder = id_path(alloc, id)?;
+        Ok(Place {
+            root: Root::Stage,
+            rel: Some(folder.join(alloc, path)?),
         })
     }
 
@@ -80,6 +116,39 @@ impl Place {
         })
     }
 
+    /// The place with this text: a root's word, then, where there is a path, `/` and a held path.
+    /// Another word is `BadName(0)`. The faults of the path count its names from 1.
+    #[tactic(auto, unfolding(crate::specs::Texts::place_fault))]
+    pub fn parse(alloc: Global, text: &str) -> Result<Place, PathError>
+        ensures same { IfOk result (λ place. place_text place ≡ text.now) }
+        ensures err { IfErr result (λ e. Explains e (place_fault text.now)) }
+        ensures fault { IfSome (place_fault text.now) (λ e. result ≡ Err e) }
+    {
+        match text.split_once('/') {
+            None => match Root::named(text) {
+                Some(root) => Ok(Place { root, rel: None }),
+                None => Err(PathError::BadName(0)),
+            },
+            Some((word, path)) => match Root::named(word) {
+                Some(root) => place_below(alloc, root, path),
+                None => Err(PathError::BadName(0)),
+            },
+        }
+    }
+
+    /// The folder that the place lies in. A root has none.
+    pub fn parent(&self, alloc: Global) -> Result<Option<Place>, AllocError>
+        ensures { IfOk result (λ above. option_map spot_of above ≡ folder_above (spot_of self.now)) }
+    {
+        match &self.rel {
+            Some(path) => Ok(Some(Place {
+                root: self.root,
+                rel: path.parent(alloc)?,
+            })),
+            None => Ok(None),
+        }
+    }
+
     /// The root's word, then, where there is a path, `/` and the path.
     pub fn text(&self, alloc: Global) -> Result<String, AllocError>
         ensures { IfOk result (λ text. string_bytes text ≡ place_text self.now) }
@@ -90,5 +159,39 @@ impl Place {
             text.push_str(path.text())?;
         }
         Ok(text)
+    }
+}
+
+// The path whose one name is the id.
+fn id_path(alloc: Global, id: &ModId) -> Result<RelPath, AllocError>
+    ensures same { IfOk result (λ path. path ≡ id.now) }
+    ensures good { IsModId id.now }
+{
+    match RelPath::parse(alloc, id.text()) {
+        Ok(path) => Ok(path),
+        Err(fault) => Err(only_memory(fault)),
+    }
+}
+
+// What is left where a fault can only be want of memory.
+fn only_memory(_fault: PathError) -> AllocError
+    requires { _fault ≡ Memory }
+{
+    AllocError
+}
+
+// The place of a held path below a root. Its faults count the path's names from 1.
+fn place_below(alloc: Global, root: Root, path: &str) -> Result<Place, PathError>
+    ensures same { IfOk result (λ place. place_text place ≡ root_word root ++ 47 ∷ path.now) }
+    ensures err { IfErr result (λ e. Explains e (rel_fault (Some path.now))) }
+    ensures fault { IfSome (rel_fault (Some path.now)) (λ e. result ≡ Err e) }
+{
+    match RelPath::parse_held(alloc, path) {
+        Ok(path) => Ok(Place {
+            root,
+            rel: Some(path),
+        }),
+        Err(PathError::BadName(at)) => Err(PathError::BadName(at + 1)),
+        Err(fault) => Err(fault),
     }
 }
