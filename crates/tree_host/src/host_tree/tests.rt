@@ -1,24 +1,15 @@
 // Each method on a real folder. A test works in a folder of its own below the current one.
 use super::HostTree;
-use rel_paths::RelPath;
 use std::alloc::Allocator;
 use std::fs::{File, Metadata, OpenOptions};
 use std::os::unix::fs::{MetadataExt, symlink};
+use std::process::Abort;
 use std::rt::Files;
 use std::test::Fail;
 use std::{env, fs, io};
-use tree_fs::{Kind, Place, Root, Tree, TreeError};
+use tree_fs::{Kind, Place, Tree, TreeError};
 
-fn top(root: Root) -> Place {
-    Place { root, rel: None }
-}
-
-fn below(rt: HostRuntime, root: Root, path: &str) -> Result<Place, Fail> {
-    Ok(Place {
-        root,
-        rel: Some(RelPath::parse(rt.alloc(), path)?),
-    })
-}
+type Host = HostTree<HostRuntime>;
 
 fn enter(rt: HostRuntime, folder: &str) -> io::Result<()> {
     let _ = fs::remove_dir_all(&rt, folder);
@@ -42,15 +33,75 @@ fn make_stage(rt: HostRuntime) -> io::Result<()> {
     symlink(&rt, "nowhere", "stage/to_nothing")
 }
 
+// The call of this name, where it answers nothing but that it was done. `to` is the second place.
+fn call(tree: &mut Host, name: &str, at: &Place, to: &Place) -> Result<(), TreeError> {
+    match name {
+        "link" => tree.link(at, to),
+        "unlink" => tree.unlink(at),
+        "rename" => tree.rename(at, to),
+        "put_new" => tree.put_new(at, b"new"),
+        "make_folder" => tree.make_folder(at),
+        "remove_folder" => tree.remove_folder(at),
+        "sync_folder" => tree.sync_folder(at),
+        "sync_file" => tree.sync_file(at),
+        _ => Err(TreeError::Memory),
+    }
+}
+
+// Makes the calls, and compares whether each was done.
+fn run(
+    rt: &(impl Abort + AllocGlobal),
+    tree: &mut Host,
+    steps: &[(&str, &str, &str, bool)],
+) -> Result<(), Fail> {
+    for (name, at, to, wanted) in steps {
+        let done = call(
+            tree,
+            name,
+            &Place::parse(rt.alloc(), at)?,
+            &Place::parse(rt.alloc(), to)?,
+        );
+        assert_eq!(rt; done.is_ok(), *wanted, "{name} {at}");
+    }
+    Ok(())
+}
+
+fn compare_kinds(
+    rt: &(impl Abort + AllocGlobal),
+    tree: &mut Host,
+    wanted: &[(&str, Kind)],
+) -> Result<(), Fail> {
+    for (at, kind) in wanted {
+        let place = Place::parse(rt.alloc(), at)?;
+        assert_eq!(rt; tree.kind(&place), Ok(*kind), "{at}");
+    }
+    Ok(())
+}
+
+// The names and kinds in a folder, or that there was no answer.
+fn listing(rt: HostRuntime, tree: &mut Host, at: &str) -> Result<String, Fail> {
+    let mut text = String::new(rt.alloc());
+    match tree.list(&Place::parse(rt.alloc(), at)?) {
+        Ok(entries) => {
+            for entry in entries {
+                let (name, kind) = (entry.name.text(), entry.kind);
+                text.push_str(format!(in rt.alloc(); "{name} {kind:?}, ")?.as_str())?;
+            }
+        }
+        Err(_) => text.push_str("no answer")?,
+    }
+    Ok(text)
+}
+
 #[test]
 fn the_first_call_makes_the_missing_roots(rt: HostRuntime) -> Result<(), Fail> {
     enter(rt, "host_roots")?;
     fs::create_dir(&rt, "base")?;
     let mut tree = HostTree::open(rt, rt.alloc(), "base")?;
     assert!(rt; !fs::exists(&rt, "base/stage")?, "to open touches nothing");
-    assert_eq!(rt; tree.kind(&top(Root::Keep))?, Kind::Folder);
+    compare_kinds(&rt, &mut tree, &[("keep", Kind::Folder)])?;
     for root in ["base/stage", "base/game", "base/keep"] {
-        assert!(rt; fs::symlink_metadata(&rt, root)?.is_dir(), "at {root}");
+        assert!(rt; fs::exists(&rt, root)?, "{root}");
     }
     assert_eq!(rt; tree.faults.get(), 0);
     leave(rt, "host_roots")?;
@@ -61,17 +112,16 @@ fn the_first_call_makes_the_missing_roots(rt: HostRuntime) -> Result<(), Fail> {
 fn a_root_may_be_a_link_to_a_folder_and_no_file(rt: HostRuntime) -> Result<(), Fail> {
     enter(rt, "host_root_links")?;
     fs::create_dir(&rt, "real")?;
+    fs::write(&rt, "real/x", "abc")?;
     symlink(&rt, "real", "game")?;
     fs::write(&rt, "stage", "no folder")?;
     let mut tree = HostTree::open(rt, rt.alloc(), "")?;
-    assert_eq!(rt; tree.kind(&top(Root::Game)), Err(TreeError::Failed));
-    assert_eq!(rt; tree.faults.get(), 1);
+    run(&rt, &mut tree, &[("sync_folder", "game", "game", false)])?;
     fs::remove_file(&rt, "stage")?;
-    fs::write(&rt, "real/x", "abc")?;
-    assert_eq!(rt; tree.kind(&top(Root::Game))?, Kind::Folder);
-    assert_eq!(rt; tree.kind(&below(rt, Root::Game, "x")?)?, Kind::File);
-    assert_eq!(rt; tree.list(&top(Root::Game))?.len(), 1);
-    tree.sync_folder(&top(Root::Game))?;
+    run(&rt, &mut tree, &[("sync_folder", "game", "game", true)])?;
+    let kinds = [("game", Kind::Folder), ("game/x", Kind::File)];
+    compare_kinds(&rt, &mut tree, &kinds)?;
+    assert_eq!(rt; listing(rt, &mut tree, "game")?.as_str(), "x File, ");
     assert_eq!(rt; tree.faults.get(), 1);
     leave(rt, "host_root_links")?;
     Ok(())
@@ -83,25 +133,19 @@ fn a_link_is_other_and_nothing_lies_below_it(rt: HostRuntime) -> Result<(), Fail
     make_stage(rt)?;
     let mut tree = HostTree::open(rt, rt.alloc(), ".")?;
     let kinds = [
-        ("file", Kind::File),
-        ("d", Kind::Folder),
-        ("d/x", Kind::File),
-        ("d/y", Kind::Absent),
-        ("e/x", Kind::Absent),
-        ("file/x", Kind::Absent),
-        ("to_folder", Kind::Other),
-        ("to_file", Kind::Other),
-        ("to_nothing", Kind::Other),
-        ("to_folder/x", Kind::Absent),
-        ("to_folder/e/x", Kind::Absent),
+        ("stage/file", Kind::File),
+        ("stage/d", Kind::Folder),
+        ("stage/d/x", Kind::File),
+        ("stage/d/y", Kind::Absent),
+        ("stage/e/x", Kind::Absent),
+        ("stage/file/x", Kind::Absent),
+        ("stage/to_folder", Kind::Other),
+        ("stage/to_file", Kind::Other),
+        ("stage/to_nothing", Kind::Other),
+        ("stage/to_folder/x", Kind::Absent),
+        ("stage/to_folder/e/x", Kind::Absent),
     ];
-    for (path, kind) in kinds {
-        assert_eq!(rt;
-            tree.kind(&below(rt, Root::Stage, path)?)?,
-            kind,
-            "at {path}"
-        );
-    }
+    compare_kinds(&rt, &mut tree, &kinds)?;
     assert_eq!(rt; tree.faults.get(), 0);
     leave(rt, "host_kinds")?;
     Ok(())
@@ -112,20 +156,20 @@ fn a_listing_is_sorted_and_follows_no_link(rt: HostRuntime) -> Result<(), Fail> 
     enter(rt, "host_list")?;
     make_stage(rt)?;
     let mut tree = HostTree::open(rt, rt.alloc(), ".")?;
-    let mut seen = String::new(rt.alloc());
-    for entry in tree.list(&top(Root::Stage))? {
-        let (name, kind) = (entry.name.text(), entry.kind);
-        seen.push_str(format!(in rt.alloc(); "{name} {kind:?}, ")?.as_str())?;
-    }
-    let wanted = "d Folder, file File, to_file Other, to_folder Other, to_nothing Other, ";
-    assert_eq!(rt; seen.as_str(), wanted);
-    assert_eq!(rt; tree.list(&below(rt, Root::Stage, "d")?)?.len(), 1);
-    assert_eq!(rt; tree.faults.get(), 0);
-    for path in ["to_folder", "to_folder/e", "file", "e"] {
-        assert!(rt;
-            tree.list(&below(rt, Root::Stage, path)?).is_err(),
-            "at {path}"
-        );
+    let listings = [
+        (
+            "stage",
+            "d Folder, file File, to_file Other, to_folder Other, to_nothing Other, ",
+        ),
+        ("stage/d", "x File, "),
+        ("game", ""),
+        ("stage/to_folder", "no answer"),
+        ("stage/to_folder/e", "no answer"),
+        ("stage/file", "no answer"),
+        ("stage/e", "no answer"),
+    ];
+    for (at, wanted) in listings {
+        assert_eq!(rt; listing(rt, &mut tree, at)?.as_str(), wanted, "{at}");
     }
     assert_eq!(rt; tree.faults.get(), 4);
     leave(rt, "host_list")?;
@@ -137,22 +181,16 @@ fn a_link_is_a_second_name_of_one_file(rt: HostRuntime) -> Result<(), Fail> {
     enter(rt, "host_link")?;
     make_stage(rt)?;
     let mut tree = HostTree::open(rt, rt.alloc(), ".")?;
-    let from = below(rt, Root::Stage, "d/x")?;
-    let to = below(rt, Root::Game, "x")?;
-    tree.link(&from, &to)?;
-    tree.sync_folder(&top(Root::Game))?;
-    let (first, second) = (
-        fs::metadata(&rt, "stage/d/x")?,
-        fs::metadata(&rt, "game/x")?,
-    );
-    assert_eq!(rt; first.ino(), second.ino());
-    assert_eq!(rt; tree.faults.get(), 0);
-    assert_eq!(rt;
-        tree.link(&from, &to),
-        Err(TreeError::Failed),
-        "nothing is overwritten"
-    );
+    let steps = [
+        ("link", "stage/d/x", "game/x", true),
+        ("sync_folder", "game", "game", true),
+        // Nothing is overwritten.
+        ("link", "stage/file", "game/x", false),
+    ];
+    run(&rt, &mut tree, &steps)?;
     assert_eq!(rt; tree.faults.get(), 1);
+    let first = fs::metadata(&rt, "stage/d/x")?;
+    assert_eq!(rt; fs::metadata(&rt, "game/x")?.ino(), first.ino());
     leave(rt, "host_link")?;
     Ok(())
 }
@@ -162,8 +200,8 @@ fn a_file_is_read_part_by_part(rt: HostRuntime) -> Result<(), Fail> {
     enter(rt, "host_parts")?;
     make_stage(rt)?;
     let mut tree = HostTree::open(rt, rt.alloc(), ".")?;
-    let at = below(rt, Root::Stage, "d/x")?;
-    assert_eq!(rt; tree.size(&at)?, 3);
+    let at = Place::parse(rt.alloc(), "stage/d/x")?;
+    assert_eq!(rt; tree.size(&at), Ok(3));
     let parts = [
         (0, 2, "ab"),
         (2, 2, "c"),
@@ -172,11 +210,8 @@ fn a_file_is_read_part_by_part(rt: HostRuntime) -> Result<(), Fail> {
         (u64::MAX, 9, ""),
     ];
     for (from, most, part) in parts {
-        assert_eq!(rt;
-            tree.read_part(&at, from, most)?.as_slice(),
-            part.as_bytes(),
-            "at {from}"
-        );
+        let bytes = tree.read_part(&at, from, most)?;
+        assert_eq!(rt; bytes.as_slice(), part.as_bytes(), "at {from}");
     }
     leave(rt, "host_parts")?;
     Ok(())
@@ -242,15 +277,12 @@ impl Files for NoNumbers {
     }
 }
 
-// Whether `stage/d/x` is one file with each of three of `game`.
-fn is_one_with<R: Files + Clone + Drop>(rt: HostRuntime, files: R) -> Result<[bool; 3], Fail> {
+// Whether `stage/d/x` and this place are one file.
+fn is_one<R: Files + Clone + Drop>(rt: HostRuntime, files: R, place: &str) -> Result<bool, Fail> {
     let mut tree = HostTree::open(files, rt.alloc(), ".")?;
-    let at = below(rt, Root::Stage, "d/x")?;
-    Ok([
-        tree.same(&at, &below(rt, Root::Game, "link")?)?,
-        tree.same(&at, &below(rt, Root::Game, "copy")?)?,
-        tree.same(&at, &below(rt, Root::Game, "other")?)?,
-    ])
+    let first = Place::parse(rt.alloc(), "stage/d/x")?;
+    let second = Place::parse(rt.alloc(), place)?;
+    Ok(tree.same(&first, &second)?)
 }
 
 #[test]
@@ -261,8 +293,15 @@ fn one_file_is_told_by_its_numbers_or_its_bytes(rt: HostRuntime) -> Result<(), F
     fs::hard_link(&rt, "stage/d/x", "game/link")?;
     fs::write(&rt, "game/copy", "abc")?;
     fs::write(&rt, "game/other", "abd")?;
-    assert_eq!(rt; is_one_with(rt, rt)?, [true, false, false]);
-    assert_eq!(rt; is_one_with(rt, NoNumbers(rt))?, [true, true, false]);
+    let cases = [
+        ("game/link", true, true),
+        ("game/copy", false, true),
+        ("game/other", false, false),
+    ];
+    for (place, by_numbers, by_bytes) in cases {
+        assert_eq!(rt; is_one(rt, rt, place)?, by_numbers, "{place}");
+        assert_eq!(rt; is_one(rt, NoNumbers(rt), place)?, by_bytes, "{place}");
+    }
     leave(rt, "host_same")?;
     Ok(())
 }
@@ -271,21 +310,24 @@ fn one_file_is_told_by_its_numbers_or_its_bytes(rt: HostRuntime) -> Result<(), F
 fn a_file_comes_moves_and_goes(rt: HostRuntime) -> Result<(), Fail> {
     enter(rt, "host_changes")?;
     let mut tree = HostTree::open(rt, rt.alloc(), ".")?;
-    let folder = below(rt, Root::Keep, "d")?;
-    let first = below(rt, Root::Keep, "d/one")?;
-    let second = below(rt, Root::Keep, "d/two")?;
-    tree.make_folder(&folder)?;
-    tree.put_new(&first, b"abc")?;
-    assert!(rt;
-        tree.put_new(&first, b"").is_err(),
-        "nothing is overwritten"
-    );
-    tree.sync_file(&first)?;
-    tree.rename(&first, &second)?;
-    assert_eq!(rt; fs::read_to_string(&rt, "keep/d/two")?.as_str(), "abc");
-    assert!(rt; tree.remove_folder(&folder).is_err(), "it isn't empty");
-    tree.unlink(&second)?;
-    tree.remove_folder(&folder)?;
+    let comes = [
+        ("make_folder", "keep/d", "keep", true),
+        ("put_new", "keep/d/one", "keep", true),
+        // Nothing is overwritten.
+        ("put_new", "keep/d/one", "keep", false),
+        ("sync_file", "keep/d/one", "keep", true),
+        ("rename", "keep/d/one", "keep/d/two", true),
+        // It isn't empty.
+        ("remove_folder", "keep/d", "keep", false),
+    ];
+    run(&rt, &mut tree, &comes)?;
+    assert_eq!(rt; fs::read_to_string(&rt, "keep/d/two")?.as_str(), "new");
+    let goes = [
+        ("unlink", "keep/d/two", "keep", true),
+        ("sync_folder", "keep/d", "keep", true),
+        ("remove_folder", "keep/d", "keep", true),
+    ];
+    run(&rt, &mut tree, &goes)?;
     assert!(rt; !fs::exists(&rt, "keep/d")?);
     assert_eq!(rt; tree.faults.get(), 2);
     leave(rt, "host_changes")?;
@@ -297,23 +339,21 @@ fn a_folder_that_went_is_known_no_more(rt: HostRuntime) -> Result<(), Fail> {
     enter(rt, "host_forgets")?;
     make_stage(rt)?;
     let mut tree = HostTree::open(rt, rt.alloc(), ".")?;
-    let folder = below(rt, Root::Stage, "e")?;
-    let inside = below(rt, Root::Stage, "e/x")?;
-    tree.make_folder(&folder)?;
-    assert_eq!(rt; tree.kind(&inside)?, Kind::Absent);
-    tree.remove_folder(&folder)?;
+    run(&rt, &mut tree, &[("make_folder", "stage/e", "stage", true)])?;
+    compare_kinds(&rt, &mut tree, &[("stage/e/x", Kind::Absent)])?;
+    run(
+        &rt,
+        &mut tree,
+        &[("remove_folder", "stage/e", "stage", true)],
+    )?;
     symlink(&rt, "d", "stage/e")?;
-    assert_eq!(rt;
-        tree.kind(&inside)?,
-        Kind::Absent,
-        "it lies below a link now"
-    );
+    compare_kinds(&rt, &mut tree, &[("stage/e/x", Kind::Absent)])?;
     leave(rt, "host_forgets")?;
     Ok(())
 }
 
-// How many of the calls fail, each but `kind`.
-fn count_failures(tree: &mut HostTree<HostRuntime>, at: &Place, free: &Place) -> usize {
+// How many of all the calls but `kind` fail.
+fn count_failures(tree: &mut Host, at: &Place, free: &Place) -> usize {
     let failed = [
         tree.size(at).is_err(),
         tree.read_part(at, 0, 1).is_err(),
@@ -332,21 +372,23 @@ fn count_failures(tree: &mut HostTree<HostRuntime>, at: &Place, free: &Place) ->
 }
 
 #[test]
-fn no_call_goes_through_a_link(rt: HostRuntime) -> Result<(), Fail> {
+fn no_call_goes_through_a_link_or_changes_a_root(rt: HostRuntime) -> Result<(), Fail> {
     enter(rt, "host_through")?;
     make_stage(rt)?;
     let mut tree = HostTree::open(rt, rt.alloc(), ".")?;
-    let free = below(rt, Root::Game, "free")?;
-    for (path, wanted) in [("to_folder/x", 12), ("to_folder/y", 12), ("file/x", 12)] {
-        let at = below(rt, Root::Stage, path)?;
-        assert_eq!(rt; count_failures(&mut tree, &at, &free), wanted, "at {path}");
+    let free = Place::parse(rt.alloc(), "game/free")?;
+    let cases = [
+        ("stage/to_folder/x", 12),
+        ("stage/to_folder/y", 12),
+        ("stage/file/x", 12),
+        // A root can be listed, and its entries be settled.
+        ("stage", 10),
+    ];
+    for (place, wanted) in cases {
+        let at = Place::parse(rt.alloc(), place)?;
+        assert_eq!(rt; count_failures(&mut tree, &at, &free), wanted, "{place}");
     }
-    assert_eq!(rt; tree.faults.get(), 36);
-    assert_eq!(rt;
-        count_failures(&mut tree, &top(Root::Stage), &free),
-        10,
-        "but list and sync_folder"
-    );
+    assert_eq!(rt; tree.faults.get(), 46);
     assert_eq!(rt; fs::read_to_string(&rt, "stage/d/x")?.as_str(), "abc");
     assert!(rt; !fs::exists(&rt, "stage/d/y")?);
     leave(rt, "host_through")?;
