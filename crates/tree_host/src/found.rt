@@ -9,6 +9,7 @@ ghost use Rattle.tree_host.specs.Found.{is_absence};
 use std::fs::Metadata;
 use std::io;
 use std::io::ErrorKind;
+use std::os::unix::fs::MetadataExt;
 use tree_fs::Kind;
 
 /// The kind of what was found. A symbolic link is `Other`.
@@ -44,4 +45,9 @@ fn is_absence(kind: ErrorKind) -> bool
     ensures { result ≡ is_absence kind }
 {
     matches!(kind, ErrorKind::NotFound | ErrorKind::NotADirectory)
+}
+
+/// Whether the numbers of device and file say which file it is.
+pub(crate) fn shows_numbers(found: &Metadata) -> bool {
+    found.dev() != 0 || found.ino() != 0
 }

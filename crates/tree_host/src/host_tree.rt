@@ -79,8 +79,23 @@ impl<R: Files + Clone + Drop> Tree for HostTree<R> {
         counted(&mut self.faults, outcome)
     }
 
+    fn size(&mut self, at: &Place) -> Result<u64, TreeError> {
+        let outcome = self.disk.size(at);
+        counted(&mut self.faults, outcome)
+    }
+
+    fn read_part(&mut self, at: &Place, from: u64, most: u32) -> Result<Vec<u8>, TreeError> {
+        let outcome = self.disk.read_part(at, from, most);
+        counted(&mut self.faults, outcome)
+    }
+
     fn list(&mut self, folder: &Place) -> Result<Vec<Entry>, TreeError> {
         let outcome = self.disk.list(folder);
+        counted(&mut self.faults, outcome)
+    }
+
+    fn same(&mut self, a: &Place, b: &Place) -> Result<bool, TreeError> {
+        let outcome = self.disk.same(a, b);
         counted(&mut self.faults, outcome)
     }
 
@@ -89,8 +104,38 @@ impl<R: Files + Clone + Drop> Tree for HostTree<R> {
         counted(&mut self.faults, outcome)
     }
 
+    fn unlink(&mut self, at: &Place) -> Result<(), TreeError> {
+        let outcome = self.disk.unlink(at);
+        counted(&mut self.faults, outcome)
+    }
+
+    fn rename(&mut self, from: &Place, to: &Place) -> Result<(), TreeError> {
+        let outcome = self.disk.rename(from, to);
+        counted(&mut self.faults, outcome)
+    }
+
+    fn put_new(&mut self, at: &Place, bytes: &[u8]) -> Result<(), TreeError> {
+        let outcome = self.disk.put_new(at, bytes);
+        counted(&mut self.faults, outcome)
+    }
+
+    fn make_folder(&mut self, at: &Place) -> Result<(), TreeError> {
+        let outcome = self.disk.make_folder(at);
+        counted(&mut self.faults, outcome)
+    }
+
+    fn remove_folder(&mut self, at: &Place) -> Result<(), TreeError> {
+        let outcome = self.disk.remove_folder(at);
+        counted(&mut self.faults, outcome)
+    }
+
     fn sync_folder(&mut self, at: &Place) -> Result<(), TreeError> {
         let outcome = self.disk.sync_folder(at);
+        counted(&mut self.faults, outcome)
+    }
+
+    fn sync_file(&mut self, at: &Place) -> Result<(), TreeError> {
+        let outcome = self.disk.sync_file(at);
         counted(&mut self.faults, outcome)
     }
 

@@ -8,6 +8,7 @@ mod found;
 mod host_tree;
 mod known;
 mod listing;
+mod reading;
 mod real_disk;
 
 pub use host_tree::HostTree;
