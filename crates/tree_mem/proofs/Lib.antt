@@ -1,0 +1,11 @@
+pub mod Names
+pub mod Maps
+pub mod Paths
+pub mod Entering
+pub mod Parts
+pub mod Listed
+pub mod Valid
+pub mod Clones
+pub mod Told
+pub mod AfterAll
+pub mod Moves
