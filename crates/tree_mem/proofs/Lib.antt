@@ -7,3 +7,5 @@ pub mod Listed
 pub mod Valid
 pub mod Clones
 pub mod Told
+pub mod AfterAll
+pub mod Moves

@@ -1,8 +1,8 @@
 -- Maps with texts as keys, and their keys as names.
-use Rattle.std.proofs.Common.{◌≡◌, ◌≢◌, ℕ, Bool, true, false, ◌&&◌, List, [], ◌∷◌, refl, sym, ap, ◌∙◌, OnOk, OnErr}
+use Rattle.std.proofs.Common.{◌≡◌, ◌≢◌, ℕ, Bool, true, false, cond, ◌&&◌, List, [], ◌∷◌, refl, sym, ap, ◌∙◌, OnOk, OnErr}
 use Rattle.std.specs.List.{list_all}
 use Rattle.std.specs.BTreeMap.{BTreeMap, UpdatesBy, insert_entry, get_by_text}
-use Rattle.std.specs.Map.{update}
+use Rattle.std.specs.Map.{update, remove_entry}
 use Rattle.std.specs.Cmp.Lexicographic.{slice_cmp}
 use Rattle.std.specs.Ordering.{nat_cmp, match_ordering}
 use Rattle.std.specs.Str.{bytes_eq}
@@ -46,3 +46,9 @@ pub AreNames-after : {X A E : Type 0} (r : Result A E) (old new : List (String G
     → IsName (string_bytes k) → AreNames old → AreNames new
 AreNames-after (Ok a) old new k v ok err h hs = rw ok (AreNames-insert old k v h hs)
 AreNames-after (Err e) old new k v ok err h hs = rw err hs
+
+pub AreNames-remove : {X : Type 0} (test : String Global → Bool) (es : List (String Global × X)) → AreNames es → AreNames (remove_entry test es)
+AreNames-remove test [] hs = refl
+AreNames-remove test (e ∷ es) hs =
+    let parts = both (is_entry_name (string_bytes e.0)) (list_all (λ f. is_entry_name (string_bytes f.0)) es) hs in
+    elim (test e.0) as (λ b. AreNames (cond b es (e ∷ remove_entry test es))) [ true ↦ parts.1 | false ↦ joint _ _ parts.0 (AreNames-remove test es parts.1) ]

@@ -138,3 +138,8 @@ put_first m n text f name empty new item names had u none h =
 
 pub update_at : (m old n : Folders) (key : String Global) (f : List ℕ) (w : Option Entries) → old ≡ m → string_bytes key ≡ f → Updates string_cmp old n key w → IsUpdate m n f w
 update_at m old n key f w same text u = subst (λ d. IsUpdate d n f w) same (subst (λ t. IsUpdate old n t w) text u)
+
+-- nothing lies where the folder has no entries
+pub set_nothing : (m n : Folders) (text f name : List ℕ) → names_of text ≡ folder_names f ++ name ∷ [] → None ≡ get_by_text m f → n ≡ m → Sets m n (names_of text) None
+set_nothing m n text f name names none same =
+    subst (λ x. Sets m x (names_of text) None) (sym same) record { here = found m text f name None names none; others = λ ns ne. refl }

@@ -1,4 +1,4 @@
-use Rattle.std.specs.Prelude.{◌≡◌, ℕ, ◌+◌, Bool, true, false, not, List, []}
+use Rattle.std.specs.Prelude.{ℕ, ◌+◌, true, false, not, List, []}
 use Rattle.tree_fs.specs.Spot.{Spot, has_some}
 use Rattle.tree_fs.specs.Disk.{Disk, none, file, set_at, set_number}
 
@@ -29,3 +29,7 @@ with_link d from to = record d { now = set_at d.now to (d.now from) }
 -- the disk with one more folder
 abbrev pub with_folder : Disk → Spot → Disk
 with_folder d at = record d { folders = set_at d.folders at true }
+
+-- the disk with one folder less
+abbrev pub without_folder : Disk → Spot → Disk
+without_folder d at = record d { folders = set_at d.folders at false }

@@ -6,3 +6,4 @@ pub mod Disks
 pub mod Changed
 pub mod Starts
 pub mod MemStory
+pub mod CanDo

@@ -1,16 +1,16 @@
 // A disk, as ordered maps and lists.
-ghost use Rattle.std.specs.Prelude.{◌≡◌, false, Some, OnOk, OnErr, IfOk};
+ghost use Rattle.std.specs.Prelude.{◌≡◌, ◌≢◌, [], false, Some, None, OnOk, OnErr, IfOk};
 ghost use Rattle.tree_fs.specs.Spot.{spot_of};
-ghost use Rattle.tree_fs.specs.Disk.{kind_of, IsFile, put, synced, file};
-ghost use Rattle.tree_fs.specs.Calls.{CanLink, CanPut};
+ghost use Rattle.tree_fs.specs.Disk.{kind_of, IsFile, file};
+ghost use Rattle.tree_fs.specs.Calls.{CanPut};
 ghost use Rattle.tree_fs.specs.Listing.{IsListing};
 ghost use Rattle.tree_mem.specs.Disks.{disk_in, item_of, folders_of, ItemSet, SameParts};
 ghost use Rattle.tree_mem.specs.Changed.{empty_disk, with_file, with_link, with_folder};
 
 use crate::entries::Item;
 use crate::file::MemFile;
-use crate::folders::{Folders, copy_folders, item_at, put_item};
-use crate::text::{folder_text, lies_in};
+use crate::folders::{Folders, copy_folders, item_at, put_item, remove_item};
+use crate::text::folder_text;
 use std::alloc::{AllocError, Global};
 use std::collections::BTreeMap;
 use tree_fs::{Entry, Kind, Place, Root};
@@ -18,20 +18,20 @@ use tree_fs::{Entry, Kind, Place, Root};
 /// A disk: what lies at each place, the files, and what is pending.
 #[derive(Drop)]
 pub(crate) struct MemDisk {
-    stage: Folders,
-    game: Folders,
-    keep: Folders,
+    pub(crate) stage: Folders,
+    pub(crate) game: Folders,
+    pub(crate) keep: Folders,
     /// The file with number n is at index n.
-    files: Vec<MemFile>,
+    pub(crate) files: Vec<MemFile>,
     /// What places held before, since their folders were last synced, the newest at the end.
-    pending: Vec<Past>,
+    pub(crate) pending: Vec<Past>,
 }
 
 /// What a place held.
 #[derive(Drop)]
 pub(crate) struct Past {
-    at: Place,
-    item: Option<Item>,
+    pub(crate) at: Place,
+    pub(crate) item: Option<Item>,
 }
 
 impl Clone for Past {
@@ -90,8 +90,13 @@ impl MemDisk {
         }
     }
 
-    // Puts an item at a place, settled.
-    fn set_item(&mut self, alloc: Global, at: &Place, item: Item) -> Result<(), AllocError>
+    /// Puts an item at a place, settled.
+    pub(crate) fn set_item(
+        &mut self,
+        alloc: Global,
+        at: &Place,
+        item: Item,
+    ) -> Result<(), AllocError>
         requires { (disk_in self.old).folders (spot_of at.now) ≡ false }
         ensures ok { OnOk result (ItemSet self.old self.new (spot_of at.now) (Some item)) }
         ensures err { OnErr result (SameParts self.old self.new) }
@@ -101,6 +106,19 @@ impl MemDisk {
             Root::Stage => put_item(alloc, &mut self.stage, path.text(), item),
             Root::Game => put_item(alloc, &mut self.game, path.text(), item),
             Root::Keep => put_item(alloc, &mut self.keep, path.text(), item),
+        }
+    }
+
+    /// Takes away what lies at a place other than a root, settled.
+    pub(crate) fn remove_item(&mut self, at: &Place)
+        requires { (spot_of at.now).names ≢ [] }
+        ensures { ItemSet self.old self.new (spot_of at.now) None }
+    {
+        let Some(path) = &at.rel else { unreachable!() };
+        match at.root {
+            Root::Stage => remove_item(&mut self.stage, path.text()),
+            Root::Game => remove_item(&mut self.game, path.text()),
+            Root::Keep => remove_item(&mut self.keep, path.text()),
         }
     }
 
@@ -124,8 +142,8 @@ impl MemDisk {
         Ok(())
     }
 
-    // The number of the file at a place.
-    fn file(&self, at: &Place) -> u64
+    /// The number of the file at a place.
+    pub(crate) fn file(&self, at: &Place) -> u64
         requires { IsFile (disk_in self.now) (spot_of at.now) }
         ensures { (disk_in self.now).now (spot_of at.now) ≡ file result }
     {
@@ -158,41 +176,6 @@ impl MemDisk {
         ensures err { OnErr result (disk_in self.new ≡ disk_in self.old) }
     {
         self.set_item(alloc, at, Item::Folder)
-    }
-
-    // Gives a place the file with this number. What it held is pending.
-    fn put_file(&mut self, alloc: Global, at: &Place, number: u64) -> Result<(), AllocError>
-        requires { (disk_in self.old).folders (spot_of at.now) ≡ false }
-        ensures ok { OnOk result (disk_in self.new ≡ put (disk_in self.old) (spot_of at.now) (file number)) }
-        ensures err { OnErr result (disk_in self.new ≡ disk_in self.old) }
-    {
-        let past = Past {
-            at: at.copy()?,
-            item: self.item(at),
-        };
-        self.pending.push(past)?;
-        if self.set_item(alloc, at, Item::File(number)).is_err() {
-            self.pending.pop();
-            return Err(AllocError);
-        }
-        Ok(())
-    }
-
-    /// Gives a place the file of another one.
-    pub(crate) fn link(&mut self, alloc: Global, from: &Place, to: &Place) -> Result<(), AllocError>
-        requires { CanLink (disk_in self.old) (spot_of from.now) (spot_of to.now) }
-        ensures ok { OnOk result (disk_in self.new ≡ put (disk_in self.old) (spot_of to.now) ((disk_in self.old).now (spot_of from.now))) }
-        ensures err { OnErr result (disk_in self.new ≡ disk_in self.old) }
-    {
-        let number = self.file(from);
-        self.put_file(alloc, to, number)
-    }
-
-    /// Settles the entries of a folder.
-    pub(crate) fn sync(&mut self, folder: &Place)
-        ensures { disk_in self.new ≡ synced (disk_in self.old) (spot_of folder.now) }
-    {
-        self.pending.retain(|past| !lies_in(&past.at, folder));
     }
 
     /// The entries of a folder, in the order of their names.

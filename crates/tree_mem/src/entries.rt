@@ -1,5 +1,5 @@
 // What lies in a folder, in an ordered map.
-ghost use Rattle.std.specs.Prelude.{◌≡◌, Some, IfOk, OnOk, OnErr, [], map};
+ghost use Rattle.std.specs.Prelude.{◌≡◌, Some, None, IfOk, OnOk, OnErr, [], map};
 ghost use Rattle.std.specs.BTreeMap.{get_by_text, IsOrdered};
 ghost use Rattle.std.specs.String.{string_bytes, string_cmp};
 ghost use Rattle.tree_fs.specs.EntryName.{IsName};
@@ -69,6 +69,12 @@ impl Entries {
     {
         self.items.insert(name, item)?;
         Ok(())
+    }
+
+    pub(crate) fn remove(&mut self, name: &str)
+        ensures { Changes self.old.items self.new.items name.now None }
+    {
+        self.items.remove(name);
     }
 
     /// The entries in the order of their names.

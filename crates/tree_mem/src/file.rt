@@ -1,5 +1,5 @@
 // The files of a disk.
-ghost use Rattle.std.specs.Prelude.{◌≡◌, true, IfOk};
+ghost use Rattle.std.specs.Prelude.{◌≡◌, [], true, false, IfOk};
 
 use std::alloc::{AllocError, Global};
 use std::marker::Model;
@@ -30,6 +30,40 @@ impl MemFile {
             bytes: copy,
             firm: true,
         })
+    }
+}
+
+impl MemFile {
+    /// A file without bytes.
+    pub(crate) fn empty(alloc: Global) -> MemFile
+        ensures { result ≡ record { bytes = []; firm = false } }
+    {
+        MemFile {
+            bytes: Vec::new(alloc),
+            firm: false,
+        }
+    }
+
+    /// The bytes.
+    pub(crate) fn bytes(&self) -> &[u8]
+        ensures { result.now ≡ self.now.bytes }
+    {
+        &self.bytes
+    }
+
+    /// Gives the file these bytes, which a stop may change.
+    pub(crate) fn fill(&mut self, bytes: Vec<u8>)
+        ensures { self.new ≡ record { bytes = bytes.items; firm = false } }
+    {
+        self.bytes = bytes;
+        self.firm = false;
+    }
+
+    /// From now on a stop leaves the bytes as they are.
+    pub(crate) fn make_firm(&mut self)
+        ensures { self.new ≡ record { bytes = self.old.bytes; firm = true } }
+    {
+        self.firm = true;
     }
 }
 

@@ -1,5 +1,5 @@
 // The folders below one root, in an ordered map.
-ghost use Rattle.std.specs.Prelude.{◌≡◌, Some, IfOk, OnOk, OnErr};
+ghost use Rattle.std.specs.Prelude.{◌≡◌, Some, None, IfOk, OnOk, OnErr};
 ghost use Rattle.rel_paths.specs.Names.{names_of, IsHeldPath};
 ghost use Rattle.tree_mem.specs.Items.{item_in, Sets, SameItems};
 
@@ -41,6 +41,17 @@ pub(crate) fn put_item(
             folders.insert(folder.to_string(alloc)?, entries)?;
             Ok(())
         }
+    }
+}
+
+/// Takes away what lies at a path.
+pub(crate) fn remove_item(folders: &mut Folders, text: &str)
+    requires { IsHeldPath text.now }
+    ensures { Sets folders.old folders.new (names_of text.now) None }
+{
+    let (folder, name) = split_last(text);
+    if let Some(entries) = folders.get_mut(folder) {
+        entries.remove(name);
     }
 }
 

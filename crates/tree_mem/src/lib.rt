@@ -1,11 +1,13 @@
 //! A disk in memory, which tells its story.
 #![tactic(auto)]
 
+mod calls;
 mod disk;
 mod entries;
 mod file;
 mod folders;
 mod mem_tree;
+mod steps;
 mod text;
 mod tree;
 

@@ -1,10 +1,11 @@
-// Worlds in memory, and the calls of the trait.
-ghost use Rattle.std.specs.Prelude.{◌≡◌, [], IfOk, OnOk, OnErr, IsSome};
-ghost use Rattle.std.proofs.Common.{subst};
+// Worlds in memory, and their steps.
+ghost use Rattle.std.specs.Prelude.{◌≡◌, ◌<◌, [], ◌∷◌, ◌++◌, IfOk, OnOk, OnErr, IsSome, vec_len};
+ghost use Rattle.std.specs.Vec.{vec_capacity};
 ghost use Rattle.tree_fs.specs.Spot.{spot_of};
-ghost use Rattle.tree_fs.specs.Disk.{IsFile, IsValid};
-ghost use Rattle.tree_fs.specs.Story.{disk_of};
+ghost use Rattle.tree_fs.specs.Disk.{IsFile};
+ghost use Rattle.tree_fs.specs.Story.{disk_of, with_ops};
 ghost use Rattle.tree_mem.specs.MemStory.{mem_story};
+ghost use Rattle.tree_mem.specs.CanDo.{CanDo};
 ghost use Rattle.tree_fs.specs.Calls.{CanPut};
 ghost use Rattle.tree_mem.specs.Changed.{empty_disk, with_file, with_link, with_folder};
 
@@ -12,7 +13,7 @@ use crate::disk::MemDisk;
 use crate::tree::MemTree;
 use fault_count::FaultCount;
 use std::alloc::{AllocError, Global};
-use tree_fs::{Entry, Kind, Op, Place, Tree, TreeError};
+use tree_fs::{Op, Place};
 
 impl MemTree {
     /// The three roots, empty. No step was done, and no fault counted.
@@ -92,48 +93,28 @@ impl MemTree {
         }
         Ok(())
     }
+
+    /// Does a step and tells it. After an error the story is as before.
+    pub(crate) fn step(&mut self, op: Op) -> Result<(), AllocError>
+        requires { CanDo (disk_of (mem_story self.old)) op }
+        ensures ok { OnOk result (mem_story self.new ≡ with_ops (mem_story self.old) (op ∷ [])) }
+        ensures err { OnErr result (mem_story self.new ≡ mem_story self.old) }
+        ensures faults { self.new.faults ≡ self.old.faults }
+    {
+        self.keep_start()?;
+        self.ops.reserve(1)?;
+        self.disk.apply(self.alloc, &op)?;
+        push_within(&mut self.ops, op);
+        Ok(())
+    }
 }
 
-impl Tree for MemTree {
-    ghost tells = { Unit {0} };
-
-    ghost story = { mem_story };
-
-    ghost faults = { λ m. m.faults };
-
-    ghost valid = { λ m told. subst IsValid m.tells m.valid };
-
-    fn kind(&mut self, at: &Place) -> Result<Kind, TreeError> {
-        Ok(self.disk.kind(at))
-    }
-
-    fn list(&mut self, folder: &Place) -> Result<Vec<Entry>, TreeError> {
-        Ok(self.disk.list(self.alloc, folder)?)
-    }
-
-    fn link(&mut self, from: &Place, to: &Place) -> Result<(), TreeError> {
-        let op = Op::Link {
-            from: from.copy()?,
-            to: to.copy()?,
-            done: true,
-        };
-        self.keep_start()?;
-        self.ops.push(op)?;
-        if self.disk.link(self.alloc, from, to).is_err() {
-            self.ops.pop();
-            return Err(TreeError::Memory);
-        }
-        Ok(())
-    }
-
-    fn sync_folder(&mut self, at: &Place) -> Result<(), TreeError> {
-        let op = Op::SyncFolder {
-            at: at.copy()?,
-            done: true,
-        };
-        self.keep_start()?;
-        self.ops.push(op)?;
-        self.disk.sync(at);
-        Ok(())
+// Adds a step, for which there is room.
+fn push_within(ops: &mut Vec<Op>, op: Op)
+    requires { vec_len ops.old < vec_capacity ops.old }
+    ensures { ops.new.items ≡ ops.old.items ++ op ∷ [] }
+{
+    if ops.push(op).is_err() {
+        unreachable!();
     }
 }
