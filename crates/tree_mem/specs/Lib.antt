@@ -7,3 +7,5 @@ pub mod Changed
 pub mod Starts
 pub mod MemStory
 pub mod CanDo
+pub mod Plan
+pub mod Failing

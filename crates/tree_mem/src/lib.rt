@@ -4,6 +4,7 @@
 mod calls;
 mod disk;
 mod entries;
+mod fail;
 mod file;
 mod folders;
 mod mem_tree;
@@ -11,4 +12,5 @@ mod steps;
 mod text;
 mod tree;
 
+pub use fail::FailAt;
 pub use tree::MemTree;
