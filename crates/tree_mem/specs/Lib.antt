@@ -9,3 +9,4 @@ pub mod MemStory
 pub mod CanDo
 pub mod Plan
 pub mod Failing
+pub mod Outside

@@ -12,7 +12,7 @@ ghost use Rattle.tree_mem.specs.Failing.{next_failure};
 ghost use Rattle.tree_mem.specs.CanDo.{CanDo};
 ghost use Rattle.tree_fs.specs.Calls.{AddsMaybe, CanPut, HasCause};
 ghost use Rattle.tree_fs.specs.declared.op.Op.TheVariants.{Create, Fill};
-ghost use Rattle.tree_mem.specs.Changed.{empty_disk, with_file, with_link, with_folder};
+ghost use Rattle.tree_mem.specs.Changed.{empty_disk, with_file, with_link, with_folder, settled_at};
 
 use crate::disk::MemDisk;
 use crate::fail::{FailAt, planned};
@@ -43,12 +43,13 @@ impl MemTree {
     /// the tree is as before.
     pub fn add_file(&mut self, alloc: Global, at: &Place, bytes: &[u8]) -> Result<(), AllocError>
         requires { CanPut (disk_of (mem_story self.old)) (spot_of at.now) }
-        ensures begins { OnOk result (mem_story self.new ≡ record { start = with_file (disk_of (mem_story self.old)) (spot_of at.now) bytes.now; ops = [] }) }
+        ensures begins { OnOk result (mem_story self.new ≡ record { start = settled_at (with_file (disk_of (mem_story self.old)) (spot_of at.now) bytes.now) (spot_of at.now); ops = [] }) }
         ensures err { OnErr result (mem_story self.new ≡ mem_story self.old) }
         ensures faults { self.new.faults ≡ self.old.faults }
         ensures plan { (self.new.fails.items ≡ self.old.fails.items) × (self.new.calls ≡ self.old.calls) }
     {
         self.disk.add_file(alloc, at, bytes)?;
+        self.disk.settle(at);
         self.start = None;
         self.ops.clear();
         Ok(())
@@ -59,27 +60,29 @@ impl MemTree {
     pub fn link_file(&mut self, alloc: Global, from: &Place, to: &Place) -> Result<(), AllocError>
         requires source { IsFile (disk_of (mem_story self.old)) (spot_of from.now) }
         requires target { CanPut (disk_of (mem_story self.old)) (spot_of to.now) }
-        ensures begins { OnOk result (mem_story self.new ≡ record { start = with_link (disk_of (mem_story self.old)) (spot_of from.now) (spot_of to.now); ops = [] }) }
+        ensures begins { OnOk result (mem_story self.new ≡ record { start = settled_at (with_link (disk_of (mem_story self.old)) (spot_of from.now) (spot_of to.now)) (spot_of to.now); ops = [] }) }
         ensures err { OnErr result (mem_story self.new ≡ mem_story self.old) }
         ensures faults { self.new.faults ≡ self.old.faults }
         ensures plan { (self.new.fails.items ≡ self.old.fails.items) × (self.new.calls ≡ self.old.calls) }
     {
         self.disk.add_link(alloc, from, to)?;
+        self.disk.settle(to);
         self.start = None;
         self.ops.clear();
         Ok(())
     }
 
-    /// Puts a folder there, and begins a new story at this disk. After an error the tree is as
+    /// Puts a folder there, settled, and begins a new story at this disk. After an error the tree is as
     /// before.
     pub fn add_folder(&mut self, alloc: Global, at: &Place) -> Result<(), AllocError>
         requires { CanPut (disk_of (mem_story self.old)) (spot_of at.now) }
-        ensures begins { OnOk result (mem_story self.new ≡ record { start = with_folder (disk_of (mem_story self.old)) (spot_of at.now); ops = [] }) }
+        ensures begins { OnOk result (mem_story self.new ≡ record { start = settled_at (with_folder (disk_of (mem_story self.old)) (spot_of at.now)) (spot_of at.now); ops = [] }) }
         ensures err { OnErr result (mem_story self.new ≡ mem_story self.old) }
         ensures faults { self.new.faults ≡ self.old.faults }
         ensures plan { (self.new.fails.items ≡ self.old.fails.items) × (self.new.calls ≡ self.old.calls) }
     {
         self.disk.add_folder(alloc, at)?;
+        self.disk.settle(at);
         self.start = None;
         self.ops.clear();
         Ok(())

@@ -9,4 +9,4 @@ returns-clause-adds c =
     let at = c.args.at.now in
     let bytes = c.args.bytes.now in
     file_told at bytes _ _ c.answer-2.result
-      (c.answer-2.ensures.story ∙ c.in_ok-put_file.ensures.ok ∙ ap (λ (s : Story). with_ops s (Create at true ∷ Fill at bytes true ∷ [])) c.next_failure-failure.ensures.story)
+    (c.answer-2.ensures.story ∙ c.in_ok-put_file.ensures.ok ∙ ap (λ (s : Story). with_ops s (Create at true ∷ Fill at bytes true ∷ [])) c.next_failure-failure.ensures.story)
