@@ -1,13 +1,19 @@
 -- Whether a place lies in a folder, told by texts.
-use Rattle.std.proofs.Common.{◌≡◌, ℕ, Bool, true, false, ◌&&◌, List, [], ◌∷◌, ◌++◌, refl, sym, ap, ◌∙◌}
+use Rattle.std.proofs.Common.{◌≡◌, ℕ, nat_eq, Bool, true, false, ◌&&◌, List, [], ◌∷◌, ◌++◌, refl, sym, ap, ◌∙◌}
 use Rattle.std.specs.Cmp.Lexicographic.{slice_cmp, pointwise}
 use Rattle.std.specs.Ordering.{nat_cmp, is_eq}
 use Rattle.std.specs.Str.{bytes_eq}
+use Rattle.std.proofs.lemmas.Bool.Decides.{same_from_decides, Decides-like}
 use Rattle.std.proofs.lemmas.Map.Text.{is_eq-slice_cmp}
+use Rattle.std.proofs.lemmas.Slice.Eq.{bytes_eq-Decides}
+use Rattle.tree_fs.specs.declared.place.Place.{Place}
+use Rattle.tree_fs.specs.Texts.{place_text}
+use Rattle.tree_fs.proofs.Spots.{spot_eq-Decides, same_place}
+use Rattle.tree_fs.proofs.Texts.{place_text-same}
 use Rattle.tree_fs.specs.declared.place.Root.{Root}
 use Rattle.tree_fs.specs.declared.place.Root.TheVariants.{Stage, Game, Keep}
 use Rattle.tree_fs.specs.contracts.place.Root.{the_type}
-use Rattle.tree_fs.specs.Spot.{Spot, root_eq, front_names, has_some, spot_eq, parent, is_entry}
+use Rattle.tree_fs.specs.Spot.{Spot, spot_of, root_eq, front_names, has_some, spot_eq, parent, is_entry}
 use Rattle.tree_mem.specs.Keys.{folder_names}
 use Rattle.tree_mem.proofs.Paths.{front-snoc, test_same}
 use denote.Enum.Bare.{sameb}
@@ -53,3 +59,9 @@ not_entry-elsewhere folder r ns e = both_false (has_some ns) (root_eq r folder.r
     both_false : (b a c : Bool) → a ≡ false → (b && (a && c)) ≡ false
     both_false true a c e = rw e
     both_false false a c e = refl
+
+-- places with one text are one place
+pub one_place : (p q : Place) → pointwise nat_eq (place_text p) (place_text q) ≡ spot_eq (spot_of q) (spot_of p)
+one_place p q =
+    same_from_decides {P = spot_of q ≡ spot_of p} (pointwise nat_eq (place_text p) (place_text q)) (spot_eq (spot_of q) (spot_of p))
+    (Decides-like _ (λ e. ap spot_of (sym (place_text-same p q e))) (λ e. ap place_text (same_place p q (sym e))) (bytes_eq-Decides (place_text p) (place_text q))) (spot_eq-Decides (spot_of q) (spot_of p))

@@ -9,3 +9,4 @@ pub mod Clones
 pub mod Told
 pub mod AfterAll
 pub mod Moves
+pub mod Others

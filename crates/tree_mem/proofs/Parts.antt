@@ -24,7 +24,7 @@ use Rattle.tree_mem.specs.FileData.{FileData}
 use Rattle.tree_mem.specs.Items.{item_in}
 use Rattle.tree_mem.specs.Disks.{folders_of, item_of, is_folder, value_in, held_before, file_at, disk_in, ItemSet, SameParts}
 use Rattle.tree_fs.specs.Calls.{CanPut}
-use Rattle.tree_mem.specs.Changed.{with_file, with_link, with_folder, without_folder}
+use Rattle.tree_mem.specs.Changed.{with_file, with_link, with_folder, without_folder, without_file, settled_at, edited}
 
 -- the same parts are the same disk
 pub disk_same : (d e : MemDisk) → SameParts d e → disk_in e ≡ disk_in d
@@ -208,8 +208,8 @@ disk_no_folder d e at h absent = same_disk (disk_in e) (without_folder (disk_in 
 }
 
 -- a place's value taken away, settled
-pub disk_removed : (d e : MemDisk) (at : Spot) → ItemSet d e at None → (disk_in d).folders at ≡ false → disk_in e ≡ record (disk_in d) { now = set_at (disk_in d).now at none }
-disk_removed d e at h no_folder = same_disk (disk_in e) _ record {
+pub disk_removed : (d e : MemDisk) (at : Spot) → ItemSet d e at None → (disk_in d).folders at ≡ false → disk_in e ≡ without_file (disk_in d) at
+disk_removed d e at h no_folder = same_disk (disk_in e) (without_file (disk_in d) at) record {
   folders = kept_item is_folder (item_of d) (item_of e) at None (one_set d e at None h) no_folder;
   now = set_item value_in (item_of d) (item_of e) at None (one_set d e at None h);
   before = λ q. ap (λ past. held_before past q) h.pending;
@@ -240,43 +240,73 @@ file-no_folder d q n e = by_item (item_of d q) e
     by_item (Some Folder) e = let never : ⊥ = cc in absurd never
     by_item (Some (File k)) e = refl
 
--- A sync takes away the past of a folder's entries.
+-- A part of the past is taken away: that of the places that a test names.
 
 abbrev held_step : Spot → List Value → Past → List Value
 held_step q held p = cond (spot_eq q (spot_of p.at)) (value_in p.item ∷ held) held
 
-abbrev stays : Spot → Past → Bool
-stays folder p = not (is_entry folder (spot_of p.at))
+abbrev pub stays : (Spot → Bool) → Past → Bool
+stays goes p = not (goes (spot_of p.at))
 
-not_there : (folder q : Spot) (held : List Value) (p : Past) (b : Bool) → is_entry folder q ≡ b → is_entry folder (spot_of p.at) ≡ not b → held_step q held p ≡ held
-not_there folder q held p b e f =
-    ap (λ t. cond t (value_in p.item ∷ held) held) (false_from_ne_true (spot_eq q (spot_of p.at)) (λ t. both b (sym e ∙ ap (is_entry folder) (spot_eq-true q (spot_of p.at) t) ∙ f)))
+not_there : (goes : Spot → Bool) (q : Spot) (held : List Value) (p : Past) (b : Bool) → goes q ≡ b → goes (spot_of p.at) ≡ not b → held_step q held p ≡ held
+not_there goes q held p b e f =
+    ap (λ t. cond t (value_in p.item ∷ held) held) (false_from_ne_true (spot_eq q (spot_of p.at)) (λ t. both b (sym e ∙ ap goes (spot_eq-true q (spot_of p.at) t) ∙ f)))
   where
     both : (b : Bool) → b ≡ not b → ⊥
     both true e = cc
     both false e = cc
 
-past_gone : (folder q : Spot) → is_entry folder q ≡ true → (held : List Value) (past : List Past) → fold (held_step q) held (filter (stays folder) past) ≡ held
-past_gone folder q e held [] = refl
-past_gone folder q e held (p ∷ past) =
-    elim (is_entry folder (spot_of p.at)) as (λ b. is_entry folder (spot_of p.at) ≡ b → fold (held_step q) held (cond (not b) (p ∷ filter (stays folder) past) (filter (stays folder) past)) ≡ held) [
-      | true ↦ λ f. past_gone folder q e held past
-      | false ↦ λ f. ap (λ h. fold (held_step q) h (filter (stays folder) past)) (not_there folder q held p true e f) ∙ past_gone folder q e held past
+past_gone : (goes : Spot → Bool) (q : Spot) → goes q ≡ true → (held : List Value) (past : List Past) → fold (held_step q) held (filter (stays goes) past) ≡ held
+past_gone goes q e held [] = refl
+past_gone goes q e held (p ∷ past) =
+    elim (goes (spot_of p.at)) as (λ b. goes (spot_of p.at) ≡ b → fold (held_step q) held (cond (not b) (p ∷ filter (stays goes) past) (filter (stays goes) past)) ≡ held) [
+      | true ↦ λ f. past_gone goes q e held past
+      | false ↦ λ f. ap (λ h. fold (held_step q) h (filter (stays goes) past)) (not_there goes q held p true e f) ∙ past_gone goes q e held past
     ] refl
 
-past_stays : (folder q : Spot) → is_entry folder q ≡ false → (held : List Value) (past : List Past) → fold (held_step q) held (filter (stays folder) past) ≡ fold (held_step q) held past
-past_stays folder q e held [] = refl
-past_stays folder q e held (p ∷ past) =
-    elim (is_entry folder (spot_of p.at)) as (λ b. is_entry folder (spot_of p.at) ≡ b → fold (held_step q) held (cond (not b) (p ∷ filter (stays folder) past) (filter (stays folder) past)) ≡ fold (held_step q) (held_step q held p) past) [
-      | true ↦ λ f. past_stays folder q e held past ∙ ap (λ h. fold (held_step q) h past) (sym (not_there folder q held p false e f))
-      | false ↦ λ f. past_stays folder q e (held_step q held p) past
+past_stays : (goes : Spot → Bool) (q : Spot) → goes q ≡ false → (held : List Value) (past : List Past) → fold (held_step q) held (filter (stays goes) past) ≡ fold (held_step q) held past
+past_stays goes q e held [] = refl
+past_stays goes q e held (p ∷ past) =
+    elim (goes (spot_of p.at)) as (λ b. goes (spot_of p.at) ≡ b → fold (held_step q) held (cond (not b) (p ∷ filter (stays goes) past) (filter (stays goes) past)) ≡ fold (held_step q) (held_step q held p) past) [
+      | true ↦ λ f. past_stays goes q e held past ∙ ap (λ h. fold (held_step q) h past) (sym (not_there goes q held p false e f))
+      | false ↦ λ f. past_stays goes q e (held_step q held p) past
     ] refl
 
-held_before-synced : (folder : Spot) (past : List Past) (q : Spot) → held_before (filter (stays folder) past) q ≡ before_synced (held_before past) folder q
+held_before-synced : (folder : Spot) (past : List Past) (q : Spot) → held_before (filter (stays (is_entry folder)) past) q ≡ before_synced (held_before past) folder q
 held_before-synced folder past q = elim (before_synced_tells (held_before past) folder q) [
-  | inl s ↦ past_gone folder q s.1 [] past ∙ sym s.0
-  | inr s ↦ past_stays folder q s.1 [] past ∙ sym s.0
+  | inl s ↦ past_gone (is_entry folder) q s.1 [] past ∙ sym s.0
+  | inr s ↦ past_stays (is_entry folder) q s.1 [] past ∙ sym s.0
 ]
+
+held_before-settled : (at : Spot) (past : List Past) (q : Spot) → held_before (filter (stays (spot_eq at)) past) q ≡ set_at (held_before past) at [] q
+held_before-settled at past q = elim (set_at_tells (held_before past) at [] q) [
+  | inl s ↦ past_gone (spot_eq at) q (ap (spot_eq at) s.1 ∙ spot_eq-same at) [] past ∙ sym s.0
+  | inr s ↦ past_stays (spot_eq at) q (false_from_ne_true (spot_eq at q) (λ t. s.1 (sym (spot_eq-true at q t)))) [] past ∙ sym s.0
+]
+
+pub disk_settled : (d e : MemDisk) (at : Spot) → ((q : Spot) → item_of e q ≡ item_of d q) → e.files.items ≡ d.files.items → e.pending.items ≡ filter (λ p. not (spot_eq at (spot_of p.at))) d.pending.items
+    → disk_in e ≡ settled_at (disk_in d) at
+disk_settled d e at items files pending = same_disk (disk_in e) (settled_at (disk_in d) at) record {
+  folders = λ q. ap is_folder (items q);
+  now = λ q. ap value_in (items q);
+  before = λ q. ap (λ past. held_before past q) pending ∙ held_before-settled at d.pending.items q;
+  bytes = λ n. ap (λ fs. (file_at fs n).bytes) files;
+  firm = λ n. ap (λ fs. (file_at fs n).firm) files;
+  fresh = ap length files;
+}
+
+pub disk_edited : (d e : MemDisk) (n : ℕ) (bytes : List ℕ) → ((q : Spot) → item_of e q ≡ item_of d q) → e.files.items ≡ set d.files.items n (record { bytes = bytes; firm = true }) → e.pending.items ≡ d.pending.items → n < length d.files.items
+    → disk_in e ≡ edited (disk_in d) (file n) bytes
+disk_edited d e n bytes items files pending l =
+    let new : FileData = record { bytes = bytes; firm = true } in
+    same_disk (disk_in e) (edited (disk_in d) (file n) bytes) record {
+      folders = λ q. ap is_folder (items q);
+      now = λ q. ap value_in (items q);
+      before = λ q. ap (λ past. held_before past q) pending;
+      bytes = λ k. ap (λ fs. (file_at fs k).bytes) files ∙ set_file (λ (x : FileData). x.bytes) d.files.items n new k l;
+      firm = λ k. ap (λ fs. (file_at fs k).firm) files ∙ set_file (λ (x : FileData). x.firm) d.files.items n new k l;
+      fresh = ap length files ∙ length-set d.files.items n new;
+    }
 
 pub disk_synced : (d e : MemDisk) (folder : Spot) → ((q : Spot) → item_of e q ≡ item_of d q) → e.files.items ≡ d.files.items → e.pending.items ≡ filter (λ p. not (is_entry folder (spot_of p.at))) d.pending.items
     → disk_in e ≡ synced (disk_in d) folder

@@ -2,10 +2,10 @@
 use Rattle.std.proofs.Common.{◌≡◌, ◌≢◌, ◌⊎◌, inl, inr, ℕ, ◌+◌, ◌<◌, ◌≤◌, Bool, true, false, not, List, [], ◌∷◌, refl, sym, ap, subst, ◌∙◌, arith}
 use Rattle.tree_fs.specs.declared.place.Root.{Root}
 use Rattle.tree_fs.specs.Spot.{Spot, has_some, root_spot, parent, front_names}
-use Rattle.tree_fs.specs.Disk.{Disk, Value, none, file, IsIn, MayHold, IsFile, IsValid, set_at}
+use Rattle.tree_fs.specs.Disk.{Disk, Value, none, file, odd, IsIn, MayHold, IsFile, IsValid, set_at}
 use Rattle.tree_fs.proofs.Functions.{set_at_tells}
 use Rattle.tree_fs.specs.Calls.{CanPut}
-use Rattle.tree_mem.specs.Changed.{empty_disk, with_file, with_link, with_folder}
+use Rattle.tree_mem.specs.Changed.{empty_disk, with_file, with_link, with_folder, without_file, edited, settled_at}
 
 -- a folder whose parent has no names is a root
 no_names : (xs : List (List ℕ)) → not (has_some xs) ≡ true → not (has_some (front_names xs)) ≡ true
@@ -82,3 +82,32 @@ valid_folder d at valid can = record {
   where
     stays : (q : Spot) → d.folders q ≡ true → set_at d.folders at true q ≡ true
     stays q t = elim (set_at_tells d.folders at true q) [ inl here ↦ here.0 | inr other ↦ other.0 ∙ t ]
+
+-- fewer values, the same folders, no fewer files
+valid_fewer : (d e : Disk) → ((q : Spot) → e.folders q ≡ d.folders q) → ((q : Spot) (v : Value) → MayHold e q v → (v ≡ none) ⊎ MayHold d q v) → ((q : Spot) → (e.now q ≡ none) ⊎ (e.now q ≡ d.now q)) → d.fresh ≤ e.fresh → IsValid d → IsValid e
+valid_fewer d e folders may now more valid = record {
+  roots = λ r. folders (root_spot r) ∙ valid.roots r;
+  nested = λ q t. folders (parent q) ∙ valid.nested q (sym (folders q) ∙ t);
+  parents = λ q v h ne. folders (parent q) ∙ elim (may q v h) [ inl is ↦ absurd (ne is) | inr old ↦ valid.parents q v old ne ];
+  bare = λ q t. elim (now q) [ inl is ↦ is | inr same ↦ same ∙ valid.bare q (sym (folders q) ∙ t) ];
+  numbers = λ q n h. elim (may q (file n) h) [ inl is ↦ absurd (cc is) | inr old ↦ let known : n < d.fresh = valid.numbers q n old in omega arith ];
+}
+
+pub valid_settled : (d : Disk) (at : Spot) → IsValid d → IsValid (settled_at d at)
+valid_settled d at valid = valid_fewer d (settled_at d at) (λ q. refl) fewer (λ q. inr refl) (omega arith) valid
+  where
+    fewer : (q : Spot) (v : Value) → MayHold (settled_at d at) q v → (v ≡ none) ⊎ MayHold d q v
+    fewer q v (inl is) = inr (inl is)
+    fewer q v (inr h) = elim (set_at_tells d.before at [] q) [ inl here ↦ absurd (subst (IsIn v) here.0 h) | inr other ↦ inr (inr (subst (IsIn v) other.0 h)) ]
+
+pub valid_edited : (d : Disk) (w : Value) (bytes : List ℕ) → IsValid d → IsValid (edited d w bytes)
+valid_edited d (file n) bytes valid = valid_fewer d (edited d (file n) bytes) (λ q. refl) (λ q v h. inr h) (λ q. inr refl) (omega arith) valid
+valid_edited d none bytes valid = valid
+valid_edited d odd bytes valid = valid
+
+pub valid_removed : (d : Disk) (at : Spot) → IsValid d → IsValid (without_file d at)
+valid_removed d at valid = valid_fewer d (without_file d at) (λ q. refl) fewer (λ q. elim (set_at_tells d.now at none q) [ inl here ↦ inl here.0 | inr other ↦ inr other.0 ]) (omega arith) valid
+  where
+    fewer : (q : Spot) (v : Value) → MayHold (without_file d at) q v → (v ≡ none) ⊎ MayHold d q v
+    fewer q v (inl is) = elim (set_at_tells d.now at none q) [ inl here ↦ inl (is ∙ here.0) | inr other ↦ inr (inl (is ∙ other.0)) ]
+    fewer q v (inr h) = inr (inr h)

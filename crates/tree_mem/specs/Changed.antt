@@ -1,6 +1,6 @@
 use Rattle.std.specs.Prelude.{ℕ, ◌+◌, true, false, not, List, []}
 use Rattle.tree_fs.specs.Spot.{Spot, has_some}
-use Rattle.tree_fs.specs.Disk.{Disk, none, file, set_at, set_number}
+use Rattle.tree_fs.specs.Disk.{Disk, Value, none, file, odd, set_at, set_number}
 
 -- a disk with the three roots and nothing else
 abbrev pub empty_disk : Disk
@@ -13,7 +13,7 @@ empty_disk = record {
   fresh = 0;
 }
 
--- the disk with one more file, which is settled and firm
+-- the disk with one more file, which is firm
 abbrev pub with_file : Disk → Spot → List ℕ → Disk
 with_file d at bytes = record d {
   now = set_at d.now at (file d.fresh);
@@ -22,7 +22,7 @@ with_file d at bytes = record d {
   fresh = d.fresh + 1;
 }
 
--- the disk with one more name of the file at `from`, settled
+-- the disk with one more name of the file at `from`
 abbrev pub with_link : Disk → Spot → Spot → Disk
 with_link d from to = record d { now = set_at d.now to (d.now from) }
 
@@ -33,3 +33,17 @@ with_folder d at = record d { folders = set_at d.folders at true }
 -- the disk with one folder less
 abbrev pub without_folder : Disk → Spot → Disk
 without_folder d at = record d { folders = set_at d.folders at false }
+
+-- the disk with one name of a file less
+abbrev pub without_file : Disk → Spot → Disk
+without_file d at = record d { now = set_at d.now at none }
+
+-- the disk on which the file has other bytes, and is firm
+abbrev pub edited : Disk → Value → List ℕ → Disk
+edited d (file n) bytes = record d { bytes = set_number d.bytes n bytes; firm = set_number d.firm n true }
+edited d none bytes = d
+edited d odd bytes = d
+
+-- the disk on which the place holds only what it holds now
+abbrev pub settled_at : Disk → Spot → Disk
+settled_at d at = record d { before = set_at d.before at [] }

@@ -7,3 +7,6 @@ pub mod Changed
 pub mod Starts
 pub mod MemStory
 pub mod CanDo
+pub mod Plan
+pub mod Failing
+pub mod Outside

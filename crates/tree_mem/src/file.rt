@@ -59,6 +59,14 @@ impl MemFile {
         self.firm = false;
     }
 
+    /// Gives the file these bytes, which stay.
+    pub(crate) fn edit(&mut self, bytes: Vec<u8>)
+        ensures { self.new ≡ record { bytes = bytes.items; firm = true } }
+    {
+        self.bytes = bytes;
+        self.firm = true;
+    }
+
     /// From now on a stop leaves the bytes as they are.
     pub(crate) fn make_firm(&mut self)
         ensures { self.new ≡ record { bytes = self.old.bytes; firm = true } }

@@ -157,8 +157,8 @@ impl MemDisk {
         file.make_firm();
     }
 
-    // Takes away a folder.
-    fn remove_folder(&mut self, at: &Place)
+    /// Takes away a folder.
+    pub(crate) fn remove_folder(&mut self, at: &Place)
         requires { CanRemoveFolder (disk_in self.old) (spot_of at.now) }
         ensures { disk_in self.new ≡ without_folder (disk_in self.old) (spot_of at.now) }
     {

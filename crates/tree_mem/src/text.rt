@@ -2,7 +2,7 @@
 ghost use Rattle.std.specs.Prelude.{◌≡◌, ◌++◌, ◌∷◌, []};
 ghost use Rattle.rel_paths.specs.Names.{names_of, IsHeldPath};
 ghost use Rattle.tree_fs.specs.EntryName.{IsName};
-ghost use Rattle.tree_fs.specs.Spot.{names_below, spot_of, is_entry};
+ghost use Rattle.tree_fs.specs.Spot.{names_below, spot_of, spot_eq, is_entry};
 ghost use Rattle.tree_mem.specs.Keys.{folder_names};
 
 use tree_fs::Place;
@@ -37,4 +37,11 @@ pub(crate) fn lies_in(at: &Place, folder: &Place) -> bool
         Some(path) => { at.root == folder.root && split_last(path.text()).0 == folder_text(folder) }
         None => false,
     }
+}
+
+// Whether two places are one.
+pub(crate) fn is_one_place(at: &Place, other: &Place) -> bool
+    ensures { result ≡ spot_eq (spot_of other.now) (spot_of at.now) }
+{
+    at == other
 }

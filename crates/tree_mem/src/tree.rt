@@ -5,6 +5,7 @@ ghost use Rattle.tree_mem.specs.Disks.{disk_in};
 ghost use Rattle.tree_mem.specs.Starts.{start_in};
 
 use crate::disk::MemDisk;
+use crate::fail::FailAt;
 use fault_count::FaultCount;
 use std::alloc::Global;
 use tree_fs::Op;
@@ -20,6 +21,9 @@ pub struct MemTree {
     pub(crate) disk: MemDisk,
     pub(crate) ops: Vec<Op>,
     pub(crate) faults: FaultCount,
+    /// The failures that are planned, and how many calls came since they were.
+    pub(crate) fails: Vec<FailAt>,
+    pub(crate) calls: u64,
     ghost tells: { disk_in disk ≡ after_all (start_in start disk) ops.items },
     ghost valid: { IsValid (disk_in disk) },
 }
