@@ -13,8 +13,6 @@ mod lines;
 mod links;
 mod refusal;
 mod staged;
-#[cfg(test)]
-mod tests;
 mod winners;
 mod words;
 

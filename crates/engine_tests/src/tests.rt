@@ -5,7 +5,7 @@ ghost use Rattle.tree_fs.specs.Spot.{spot_of};
 ghost use Rattle.tree_fs.specs.Story.{disk_of};
 ghost use Rattle.tree_mem.specs.MemStory.{mem_story};
 
-use crate::{Answer, Early, Limits, Refusal, run};
+use deploy_engine::{Answer, Early, Limits, Refusal, run};
 use io_edge::{MemSink, MemSource};
 use std::alloc::Global;
 use std::process::Abort;
