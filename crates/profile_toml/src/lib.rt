@@ -1,0 +1,19 @@
+//! The profile: its mods in order with their rules, and its overrides, as TOML text.
+#![tactic(auto)]
+
+mod error;
+mod extra;
+mod mod_entry;
+mod override_entry;
+mod profile;
+mod rule;
+mod spot;
+mod text;
+
+pub use error::ProfileError;
+pub use extra::Extra;
+pub use mod_entry::ModEntry;
+pub use override_entry::Override;
+pub use profile::{Profile, default_profile};
+pub use rule::{Rule, RuleKind};
+pub use text::Text;
