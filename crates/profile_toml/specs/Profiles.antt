@@ -1,9 +1,9 @@
 -- The profile that a text has, or its first fault.
-use Rattle.std.specs.Prelude.{ℕ, suc, List, Bool, Option, None, Some, Result, Ok, Err, not, nat_lt, codes, ℤ, pos, if◌then◌else◌}
+use Rattle.std.specs.Prelude.{ℕ, suc, List, [], Bool, true, false, map, Option, None, Some, Result, Ok, Err, not, nat_lt, codes, ℤ, pos, if◌then◌else◌}
 use Rattle.std.specs.Option.{option_or}
 use Rattle.std.specs.Ordering.{int_eq}
 use Rattle.std.specs.Str.{is_utf8}
-use Rattle.toml.specs.Data.{Data, integer, Members, get_member}
+use Rattle.toml.specs.Data.{Data, integer, Members, no_members, get_member}
 use Rattle.toml.specs.Parse.{parse_document}
 use Rattle.profile_toml.specs.declared.error.ProfileError.{ProfileError}
 use Rattle.profile_toml.specs.declared.error.ProfileError.TheVariants.{NotToml, Deep, Float, Version}
@@ -11,13 +11,13 @@ use Rattle.profile_toml.specs.Faults.{fault_if}
 use Rattle.profile_toml.specs.Levels.{members_levels}
 use Rattle.profile_toml.specs.Floats.{members_have_float}
 use Rattle.profile_toml.specs.Unknown.{without, profile_keys}
-use Rattle.profile_toml.specs.Records.{ProfileData}
+use Rattle.profile_toml.specs.Records.{ProfileData, ModData}
 use Rattle.profile_toml.specs.Mods.{mods_fault, mods_value}
 use Rattle.profile_toml.specs.Overrides.{overrides_fault, overrides_value}
 
 abbrev pub is_version_1 : Option Data → Bool
 is_version_1 (Some (integer z)) = int_eq z (pos 1)
-is_version_1 _ = Bool.false
+is_version_1 _ = false
 
 -- the first fault of a document. The document itself is at level 1
 abbrev pub document_fault : Members → Option ProfileError
@@ -49,3 +49,11 @@ profile_or (Some e) ms = Err e
 -- the profile that these bytes are, or their first fault
 unfoldable pub profile_of : List ℕ → Result ProfileData ProfileError
 profile_of bytes = profile_or (text_fault (document_of bytes)) (document_of bytes)
+
+-- a mod without rules and unknown keys
+abbrev pub plain_mod : Bool → ModData
+plain_mod enabled = record { enabled = enabled; rules = []; extra = no_members }
+
+-- the profile of these mods in this order, all enabled
+abbrev pub default_value : List (List ℕ) → ProfileData
+default_value ids = record { mods = map (λ id. (id, plain_mod true)) ids; overrides = []; extra = no_members }

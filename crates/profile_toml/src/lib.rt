@@ -3,6 +3,7 @@
 
 mod error;
 mod extra;
+mod maps;
 mod mod_entry;
 mod override_entry;
 mod profile;

@@ -9,9 +9,9 @@ use std::marker::Model;
 /// What a profile has of a mod: whether it is enabled, and its rules in order.
 #[derive(Drop)]
 pub struct ModEntry {
-    enabled: bool,
-    rules: Vec<Rule>,
-    extra: Extra,
+    pub enabled: bool,
+    pub rules: Vec<Rule>,
+    pub extra: Extra,
 }
 
 impl Model for ModEntry {

@@ -11,9 +11,9 @@ use std::marker::Model;
 /// An override: the mod whose file is to stand at a user path.
 #[derive(Drop)]
 pub struct Override {
-    path: RelPath,
-    mod_id: ModId,
-    extra: Extra,
+    pub path: RelPath,
+    pub mod_id: ModId,
+    pub extra: Extra,
 }
 
 impl Model for Override {

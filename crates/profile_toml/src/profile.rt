@@ -4,7 +4,9 @@ ghost use Rattle.std.specs.List.{IsDistinct};
 ghost use Rattle.std.specs.Cmp.Lexicographic.{pointwise};
 ghost use Rattle.toml.specs.Data.{no_members};
 ghost use Rattle.profile_toml.specs.Records.{AreAtTheirPaths};
+ghost use Rattle.profile_toml.specs.Profiles.{default_value};
 
+use crate::maps::add_mod;
 use crate::{Extra, ModEntry, Override};
 use indexmap::IndexMap;
 use rel_paths::{ModId, RelPath};
@@ -14,9 +16,9 @@ use std::marker::Model;
 /// A profile: mods by their ids and overrides by their paths, each in their order.
 #[derive(Drop)]
 pub struct Profile {
-    mods: IndexMap<ModId, ModEntry>,
-    overrides: IndexMap<RelPath, Override>,
-    extra: Extra,
+    pub mods: IndexMap<ModId, ModEntry>,
+    pub overrides: IndexMap<RelPath, Override>,
+    pub extra: Extra,
 }
 
 impl Model for Profile {
@@ -66,6 +68,15 @@ impl Profile {
 /// The profile of these mods in this order, all enabled, without rules and overrides.
 pub fn default_profile(alloc: Global, ids: Vec<ModId>) -> Result<Profile, AllocError>
     requires { IsDistinct (pointwise nat_eq) ids.items }
+    ensures { IfOk result (λ p. p ≡ default_value ids.items) }
 {
-    Ok(Profile::plain(alloc))
+    let mut mods = IndexMap::new(alloc);
+    for id in ids {
+        add_mod(&mut mods, id, ModEntry::plain(alloc, true))?;
+    }
+    Ok(Profile {
+        mods,
+        overrides: IndexMap::new(alloc),
+        extra: Extra::none(alloc),
+    })
 }

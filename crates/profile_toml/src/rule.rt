@@ -25,9 +25,9 @@ pub enum RuleKind {
 /// A rule of a mod.
 #[derive(Drop)]
 pub struct Rule {
-    kind: RuleKind,
-    refers: ModId,
-    extra: Extra,
+    pub kind: RuleKind,
+    pub refers: ModId,
+    pub extra: Extra,
 }
 
 impl Model for Rule {
