@@ -8,7 +8,7 @@ use Rattle.profile_toml.specs.declared.error.ProfileError.{ProfileError}
 use Rattle.profile_toml.specs.declared.error.ProfileError.TheVariants.{Shape, SameMod}
 use Rattle.profile_toml.specs.Faults.{fault_if, first_fault}
 use Rattle.profile_toml.specs.KeyPaths.{keyed, indexed}
-use Rattle.profile_toml.specs.Texts.{members_in, list_of, items_at, text_at, text_fault, is_mod_id}
+use Rattle.profile_toml.specs.Texts.{members_in, list_of, items_at, text_at, text_fault, bad_id}
 use Rattle.profile_toml.specs.Unknown.{without, mod_keys}
 use Rattle.profile_toml.specs.Records.{ModData}
 use Rattle.profile_toml.specs.Rules.{rules_fault, rules_value}
@@ -31,7 +31,7 @@ id_in d = text_at (get_member (codes "id") (members_in d))
 abbrev pub mod_fault : List (List ℕ) → List ℕ → Data → Option ProfileError
 mod_fault earlier at (table ms) =
     let id = get_member (codes "id") ms in
-    option_or (text_fault is_mod_id (keyed at (codes "id")) id)
+    option_or (text_fault bad_id (keyed at (codes "id")) id)
     (option_or (fault_if (list_any (pointwise nat_eq (text_at id)) earlier) (SameMod (text_at id)))
       (option_or (enabled_fault (keyed at (codes "enabled")) (get_member (codes "enabled") ms))
         (rules_fault (keyed at (codes "rules")) (get_member (codes "rules") ms))))

@@ -8,7 +8,7 @@ use Rattle.profile_toml.specs.declared.error.ProfileError.{ProfileError}
 use Rattle.profile_toml.specs.declared.error.ProfileError.TheVariants.{Shape, SameOverride}
 use Rattle.profile_toml.specs.Faults.{fault_if, first_fault}
 use Rattle.profile_toml.specs.KeyPaths.{keyed, indexed}
-use Rattle.profile_toml.specs.Texts.{members_in, list_of, items_at, text_at, text_fault, is_mod_id, is_user_path}
+use Rattle.profile_toml.specs.Texts.{members_in, list_of, items_at, text_at, text_fault, bad_id, bad_path}
 use Rattle.profile_toml.specs.Unknown.{without, override_keys}
 use Rattle.profile_toml.specs.Records.{OverrideData}
 
@@ -20,9 +20,9 @@ path_in d = text_at (get_member (codes "path") (members_in d))
 abbrev pub override_fault : List (List ℕ) → List ℕ → Data → Option ProfileError
 override_fault earlier at (table ms) =
     let path = get_member (codes "path") ms in
-    option_or (text_fault is_user_path (keyed at (codes "path")) path)
+    option_or (text_fault bad_path (keyed at (codes "path")) path)
     (option_or (fault_if (list_any (pointwise nat_eq (text_at path)) earlier) (SameOverride (text_at path)))
-      (text_fault is_mod_id (keyed at (codes "mod")) (get_member (codes "mod") ms)))
+      (text_fault bad_id (keyed at (codes "mod")) (get_member (codes "mod") ms)))
 override_fault earlier at _ = Some (Shape at)
 
 -- the override, where it has no fault

@@ -2,14 +2,14 @@
 use Rattle.std.specs.Prelude.{◌≡◌, ℕ, List, [], ◌∷◌, Bool, not, Option, None, Some, is_none, unwrap_or, map, codes, if◌then◌else◌}
 use Rattle.std.specs.Option.{option_or}
 use Rattle.std.specs.Str.{bytes_eq}
-use Rattle.toml.specs.Data.{Data, string, array, table, get_member}
+use Rattle.toml.specs.Data.{Data, array, table, get_member}
 use Rattle.profile_toml.specs.declared.rule.RuleKind.{RuleKind}
 use Rattle.profile_toml.specs.declared.rule.RuleKind.TheVariants.{Before, After, Requires, Conflicts, Recommends}
 use Rattle.profile_toml.specs.declared.error.ProfileError.{ProfileError}
 use Rattle.profile_toml.specs.declared.error.ProfileError.TheVariants.{Shape, BadKind}
 use Rattle.profile_toml.specs.Faults.{fault_if, first_fault}
 use Rattle.profile_toml.specs.KeyPaths.{keyed, indexed}
-use Rattle.profile_toml.specs.Texts.{members_in, list_of, items_at, text_at, text_fault, is_mod_id}
+use Rattle.profile_toml.specs.Texts.{members_in, list_of, items_at, text_at, text_fault, bad_id}
 use Rattle.profile_toml.specs.Unknown.{without, rule_keys}
 use Rattle.profile_toml.specs.Records.{RuleData}
 
@@ -30,13 +30,12 @@ kind_of word =
     else if bytes_eq word (codes "recommends") then Some Recommends
     else None
 
-abbrev pub kind_fault : List ℕ → Option Data → Option ProfileError
-kind_fault at (Some (string s)) = fault_if (is_none (kind_of s)) (BadKind s)
-kind_fault at _ = Some (Shape at)
+abbrev pub bad_kind : List ℕ → Option ProfileError
+bad_kind text = fault_if (is_none (kind_of text)) (BadKind text)
 
 -- the first fault of the rule at a key path
 abbrev pub rule_fault : List ℕ → Data → Option ProfileError
-rule_fault at (table ms) = option_or (kind_fault (keyed at (codes "kind")) (get_member (codes "kind") ms)) (text_fault is_mod_id (keyed at (codes "ref")) (get_member (codes "ref") ms))
+rule_fault at (table ms) = option_or (text_fault bad_kind (keyed at (codes "kind")) (get_member (codes "kind") ms)) (text_fault bad_id (keyed at (codes "ref")) (get_member (codes "ref") ms))
 rule_fault at _ = Some (Shape at)
 
 -- the kind at a key, where there is no fault

@@ -1,11 +1,13 @@
 //! The profile: its mods in order with their rules, and its overrides, as TOML text.
 #![tactic(auto)]
 
+mod checks;
 mod error;
 mod extra;
 mod maps;
 mod mod_entry;
 mod override_entry;
+mod pieces;
 mod profile;
 mod rule;
 mod spot;
