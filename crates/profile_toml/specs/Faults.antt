@@ -13,6 +13,11 @@ abbrev pub Reads : {A : Type 0} → Option ProfileError → A → Result A Profi
 Reads fault value (Ok x) = (fault ≡ None) × (x ≡ value)
 Reads fault value (Err e) = Explains e fault
 
+-- the same for a part of what is answered, as a list in a `Vec`
+abbrev pub ReadsBy : {A B : Type 0} → (A → B) → Option ProfileError → B → Result A ProfileError → Type 0
+ReadsBy part fault value (Ok x) = (fault ≡ None) × (part x ≡ value)
+ReadsBy part fault value (Err e) = Explains e fault
+
 -- this fault, where the test holds
 abbrev pub fault_if : Bool → ProfileError → Option ProfileError
 fault_if test e = if test then Some e else None

@@ -1,6 +1,7 @@
 pub mod Stored
 pub mod Levels
 pub mod Floats
+pub mod Sound
 pub mod Unknown
 pub mod Records
 pub mod KeyPaths

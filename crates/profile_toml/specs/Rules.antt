@@ -46,10 +46,14 @@ kind_at d = unwrap_or (kind_of (text_at d)) Before
 abbrev pub rule_value : Data → RuleData
 rule_value d = record { kind = kind_at (get_member (codes "kind") (members_in d)); refers = text_at (get_member (codes "ref") (members_in d)); extra = without rule_keys (members_in d) }
 
+-- the first fault of these rules, whose array stands at a key path
+abbrev pub list_fault : List ℕ → List Data → Option ProfileError
+list_fault at ds = first_fault (λ j d. rule_fault (indexed at j) d) 0 ds
+
 -- the first fault of the rules at a key path, which may be missing, and else the rules
 abbrev pub rules_fault : List ℕ → Option Data → Option ProfileError
 rules_fault at None = None
-rules_fault at (Some (array ds)) = first_fault (λ j d. rule_fault (indexed at j) d) 0 (list_of ds)
+rules_fault at (Some (array ds)) = list_fault at (list_of ds)
 rules_fault at _ = Some (Shape at)
 
 abbrev pub rules_value : Option Data → List RuleData

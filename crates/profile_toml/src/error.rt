@@ -1,6 +1,7 @@
 // Why bytes are no profile.
 use crate::Text;
 use rel_paths::{ModId, RelPath};
+use std::alloc::AllocError;
 
 /// Why bytes are no profile. Of several faults the first is told: `NotToml`, `Deep`, `Float` and
 /// `Version` in this order, then those of the mods in order, then those of the overrides in order.
@@ -26,4 +27,15 @@ pub enum ProfileError {
     SameOverride(RelPath),
     /// Memory ran out.
     Memory,
+}
+
+impl From<AllocError> for ProfileError {
+    ghost use Rattle.std.specs.Prelude.{◌≡◌};
+    ghost use Rattle.profile_toml.specs.declared.error.ProfileError.TheVariants.{Memory};
+
+    ghost from_gives = { λ _ e. e ≡ Memory };
+
+    fn from(_e: AllocError) -> ProfileError {
+        ProfileError::Memory
+    }
 }

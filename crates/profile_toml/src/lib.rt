@@ -9,6 +9,8 @@ mod mod_entry;
 mod override_entry;
 mod pieces;
 mod profile;
+mod read_mods;
+mod read_rules;
 mod rule;
 mod spot;
 mod text;
