@@ -1,5 +1,5 @@
 -- What the parts of a mod's table say of the mod.
-use Rattle.std.proofs.Common.{◌≡◌, ℕ, Bool, true, false, List, [], ◌∷◌, Option, None, Some, codes, nat_eq, refl, ap, sym, ◌∙◌}
+use Rattle.std.proofs.Common.{◌≡◌, ℕ, Bool, true, false, List, [], ◌∷◌, Option, None, Some, codes, map, take, nat_eq, refl, ap, sym, ◌∙◌}
 use Rattle.std.specs.Option.{option_or}
 use Rattle.std.specs.List.{list_any}
 use Rattle.std.specs.Cmp.Lexicographic.{pointwise}
@@ -7,10 +7,10 @@ use Rattle.toml.specs.Data.{Data, table, Members, get_member}
 use Rattle.profile_toml.specs.declared.error.ProfileError.{ProfileError}
 use Rattle.profile_toml.specs.declared.error.ProfileError.TheVariants.{SameMod}
 use Rattle.profile_toml.specs.Faults.{Explains, fault_if}
-use Rattle.profile_toml.specs.KeyPaths.{keyed}
+use Rattle.profile_toml.specs.KeyPaths.{keyed, indexed}
 use Rattle.profile_toml.specs.Texts.{text_fault, text_at, bad_id}
 use Rattle.profile_toml.specs.Rules.{rules_fault, rules_value}
-use Rattle.profile_toml.specs.Mods.{enabled_fault, enabled_at, entry_fault, entry_value, mod_fault, mod_value}
+use Rattle.profile_toml.specs.Mods.{enabled_fault, enabled_at, entry_fault, entry_value, mod_fault, mod_value, id_in}
 use Rattle.profile_toml.specs.Unknown.{without_key, without, mod_keys}
 use Rattle.profile_toml.proofs.Members.{get-without, get-gone, without_key-none}
 
@@ -56,3 +56,7 @@ module _ (earlier : List (List ℕ)) (at : List ℕ) (d : Data) (ms : Members) (
 
       pub mod_value_is : (id, entry_value left) ≡ mod_value d
       mod_value_is = (λ i. (id_is i, entry_value_left i)) ∙ ap mod_value (sym is)
+
+-- the fault of the mod at a place of a list
+abbrev pub fault_among : List Data → ℕ → Data → Option ProfileError
+fault_among ds i d = mod_fault (map id_in (take i ds)) (indexed (codes "mods") i) d

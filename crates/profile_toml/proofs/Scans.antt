@@ -1,6 +1,6 @@
 -- The first fault of a list, as a loop finds it, and the exit of a `?`.
 use Rattle.std.proofs.Common.{◌≡◌, ℕ, ◌+◌, List, [], ◌∷◌, ◌++◌, Option, None, Some, Result, Ok, Err, length, map, refl, ap, sym, subst, ◌∙◌, arith}
-use Rattle.std.specs.Result.{IsErrAnd}
+use Rattle.std.specs.Result.{IsErrAnd, IfErr}
 use Rattle.std.specs.Option.{option_or}
 use Rattle.toml.specs.Data.{Data, array, Items, item, no_items}
 use Rattle.toml.specs.View.{view, items_view}
@@ -42,3 +42,7 @@ module _ {A : Type 0} (f : ℕ → A → Option ProfileError) (n : ℕ) (x : A) 
 -- none at the end
 pub scan_end : {A : Type 0} (f : ℕ → A → Option ProfileError) (n : ℕ) (xs : List A) (whole : Option ProfileError) → xs ≡ [] → first_fault f n xs ≡ whole → whole ≡ None
 scan_end f n xs whole none h = sym h ∙ ap (first_fault f n) none
+
+pub Explains-err : {A : Type 0} (fault : Option ProfileError) (r : Result A ProfileError) (e : ProfileError) → IsErrAnd r (λ x. x ≡ e) → Explains e fault → IfErr r (λ x. Explains x fault)
+Explains-err fault (Ok x) e h g = absurd h
+Explains-err fault (Err x) e h g = subst (λ y. Explains y fault) (sym h) g
