@@ -6,3 +6,5 @@ pub mod RuleFacts
 pub mod Scans
 pub mod Keys
 pub mod ModFacts
+pub mod OverrideFacts
+pub mod DocumentFacts

@@ -29,6 +29,10 @@ override_fault earlier at _ = Some (Shape at)
 abbrev pub override_value : Data → OverrideData
 override_value d = record { path = path_in d; mod_id = text_at (get_member (codes "mod") (members_in d)); extra = without override_keys (members_in d) }
 
+-- the override with its path
+abbrev pub override_entry : Data → List ℕ × OverrideData
+override_entry d = (path_in d, override_value d)
+
 -- the first fault of these overrides
 abbrev pub list_fault : List Data → Option ProfileError
 list_fault ds = first_fault (λ i d. override_fault (map path_in (take i ds)) (indexed (codes "overrides") i) d) 0 ds

@@ -19,14 +19,16 @@ abbrev pub is_version_1 : Option Data → Bool
 is_version_1 (Some (integer z)) = int_eq z (pos 1)
 is_version_1 _ = false
 
+-- the first fault of the mods and the overrides
+abbrev pub parts_fault : Members → Option ProfileError
+parts_fault ms = option_or (mods_fault (get_member (codes "mods") ms)) (overrides_fault (get_member (codes "overrides") ms))
+
 -- the first fault of a document. The document itself is at level 1
 abbrev pub document_fault : Members → Option ProfileError
 document_fault ms =
     option_or (fault_if (nat_lt 64 (suc (members_levels ms))) Deep)
     (option_or (fault_if (members_have_float ms) Float)
-      (option_or (fault_if (not (is_version_1 (get_member (codes "version") ms))) Version)
-        (option_or (mods_fault (get_member (codes "mods") ms))
-          (overrides_fault (get_member (codes "overrides") ms)))))
+      (option_or (fault_if (not (is_version_1 (get_member (codes "version") ms))) Version) (parts_fault ms)))
 
 -- the profile of a document without a fault
 abbrev pub document_value : Members → ProfileData
@@ -36,10 +38,10 @@ document_value ms = record { mods = mods_value (get_member (codes "mods") ms); o
 abbrev pub document_of : List ℕ → Option Members
 document_of bytes = if is_utf8 bytes then parse_document bytes else None
 
--- the first fault of a text, and else its profile
-abbrev pub text_fault : Option Members → Option ProfileError
-text_fault None = Some NotToml
-text_fault (Some ms) = document_fault ms
+-- the first fault of the bytes, by their document
+abbrev pub bytes_fault : Option Members → Option ProfileError
+bytes_fault None = Some NotToml
+bytes_fault (Some ms) = document_fault ms
 
 abbrev pub profile_or : Option ProfileError → Option Members → Result ProfileData ProfileError
 profile_or None (Some ms) = Ok (document_value ms)
@@ -48,7 +50,7 @@ profile_or (Some e) ms = Err e
 
 -- the profile that these bytes are, or their first fault
 unfoldable pub profile_of : List ℕ → Result ProfileData ProfileError
-profile_of bytes = profile_or (text_fault (document_of bytes)) (document_of bytes)
+profile_of bytes = profile_or (bytes_fault (document_of bytes)) (document_of bytes)
 
 -- a mod without rules and unknown keys
 abbrev pub plain_mod : Bool → ModData
