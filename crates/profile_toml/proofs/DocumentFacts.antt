@@ -1,21 +1,22 @@
 -- What the parts of a document say of the profile.
 use Rattle.std.proofs.Common.{◌≡◌, ◌≤◌, ℕ, suc, Bool, true, false, not, nat_le, nat_lt, List, [], ◌∷◌, Option, None, Some, Result, Ok, Err, codes, map, refl, ap, sym, subst, ◌∙◌, arith}
 use Rattle.std.proofs.lemmas.Bool.Decides.{nat_tests}
-use Rattle.std.proofs.lemmas.Str.{IsUtf8-from_is_utf8}
+use Rattle.std.proofs.lemmas.Str.{IsUtf8-from_is_utf8, is_utf8-from_IsUtf8}
 use Rattle.std.specs.List.{AllByRecursion}
 use Rattle.std.specs.Option.{option_or}
+use Rattle.std.specs.Result.{IfOk, IfErr}
 use Rattle.std.specs.Str.{is_utf8, IsUtf8}
 use Rattle.toml.specs.Data.{Data, Members, get_member}
 use Rattle.toml.specs.Parse.{parse_document}
 use Rattle.profile_toml.specs.declared.error.ProfileError.{ProfileError}
-use Rattle.profile_toml.specs.declared.error.ProfileError.TheVariants.{Deep, Float, Version}
-use Rattle.profile_toml.specs.Faults.{fault_if}
+use Rattle.profile_toml.specs.declared.error.ProfileError.TheVariants.{NotToml, Deep, Float, Version, Memory}
+use Rattle.profile_toml.specs.Faults.{fault_if, Reads}
 use Rattle.profile_toml.specs.Levels.{members_levels}
 use Rattle.profile_toml.specs.Floats.{members_have_float}
 use Rattle.profile_toml.specs.Mods.{mods_fault, mods_value}
 use Rattle.profile_toml.specs.Overrides.{override_entry, override_value, overrides_fault, overrides_value}
-use Rattle.profile_toml.specs.Profiles.{document_of, document_fault, document_value, is_version_1, parts_fault}
-use Rattle.profile_toml.specs.Records.{OverrideData, AreAtTheirPaths}
+use Rattle.profile_toml.specs.Profiles.{document_of, document_fault, document_value, is_version_1, parts_fault, bytes_fault, profile_or, profile_of}
+use Rattle.profile_toml.specs.Records.{OverrideData, ProfileData, AreAtTheirPaths}
 use Rattle.profile_toml.specs.Unknown.{without_key, without, profile_keys}
 use Rattle.profile_toml.proofs.Members.{get-without, get-gone, without_key-none}
 
@@ -81,3 +82,22 @@ module _ (ms : Members) where
             let overrides = ap (get_member (codes "overrides")) left_is ∙ get-without (codes "version") (codes "overrides") ms refl in
             let again : without_key (codes "version") left ≡ without_key (codes "version") ms = ap (without_key (codes "version")) left_is ∙ without_key-none (codes "version") (without_key (codes "version") ms) (get-gone (codes "version") ms) in
             λ i. record { mods = mods_value (mods i); overrides = overrides_value (overrides i); extra = without_key (codes "overrides") (without_key (codes "mods") (again i)) }
+
+-- bytes that the reader takes
+pub accepted : (bytes : List ℕ) (ms : Members) → IsUtf8 bytes → parse_document bytes ≡ Some ms → document_of bytes ≡ Some ms
+accepted bytes ms h p = rw (is_utf8-from_IsUtf8 bytes h) p
+
+pub not_toml : (bytes : List ℕ) → document_of bytes ≡ None → profile_of bytes ≡ Err NotToml
+unfolding profile_of
+not_toml bytes h = ap (λ d. profile_or (bytes_fault d) d) h
+
+pub profile_read : (bytes : List ℕ) (ms : Members) (r : Result ProfileData ProfileError) → document_of bytes ≡ Some ms → Reads (document_fault ms) (document_value ms) r → IfOk r (λ p. profile_of bytes ≡ Ok p)
+unfolding profile_of
+profile_read bytes ms (Ok p) h g = ap (λ d. profile_or (bytes_fault d) d) h ∙ ap (λ f. profile_or f (Some ms)) g.0 ∙ ap Ok (sym g.1)
+profile_read bytes ms (Err e) h g = tt
+
+pub fault_read : (bytes : List ℕ) (ms : Members) (r : Result ProfileData ProfileError) → document_of bytes ≡ Some ms → Reads (document_fault ms) (document_value ms) r
+    → IfErr r (λ e. (e ≡ Memory → ⊥) → profile_of bytes ≡ Err e)
+unfolding profile_of
+fault_read bytes ms (Ok p) h g = tt
+fault_read bytes ms (Err e) h g = λ n. ap (λ d. profile_or (bytes_fault d) d) h ∙ ap (λ f. profile_or f (Some ms)) (g n)

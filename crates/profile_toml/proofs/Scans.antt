@@ -46,3 +46,7 @@ scan_end f n xs whole none h = sym h ∙ ap (first_fault f n) none
 pub Explains-err : {A : Type 0} (fault : Option ProfileError) (r : Result A ProfileError) (e : ProfileError) → IsErrAnd r (λ x. x ≡ e) → Explains e fault → IfErr r (λ x. Explains x fault)
 Explains-err fault (Ok x) e h g = absurd h
 Explains-err fault (Err x) e h g = subst (λ y. Explains y fault) (sym h) g
+
+pub IfErr-err : {A : Type 0} (P : ProfileError → Type 0) (r : Result A ProfileError) (e : ProfileError) → IsErrAnd r (λ x. x ≡ e) → P e → IfErr r P
+IfErr-err P (Ok x) e h g = absurd h
+IfErr-err P (Err x) e h g = subst P (sym h) g

@@ -1,4 +1,5 @@
 use Rattle.std.proofs.Common.{◌≡◌, List, None, codes, map, ap, sym, subst, ◌∙◌}
+use Rattle.std.specs.Option.{option_or}
 use Rattle.toml.specs.Data.{get_member}
 use Rattle.toml.specs.View.{view, table_view}
 use Rattle.profile_toml.specs.Mods.{mods_fault, mods_value}
@@ -16,7 +17,10 @@ pub read_mods-requires : goal.read_mods-requires
 read_mods-requires c = IsSound-taken 63 (codes "mods") (table_view c.args.table) c.take.result c.take.ensures.value c.requires.sound
 
 pub returns-in_err-mods : goal.returns-in_err-mods
-returns-in_err-mods c = ?
+returns-in_err-mods c =
+    let rest = overrides_fault (get_member (codes "overrides") (table_view c.args.table)) in
+    Reads-err _ _ _ c.in_err-mods.field-0.0 c.from_residual.ensures.1
+      (λ n. ap (λ d. option_or (mods_fault d) rest) (sym c.take.ensures.value) ∙ ap (λ f. option_or f rest) (c.in_err-mods.ensures n))
 
 pub read_overrides-requires : goal.read_overrides-requires
 read_overrides-requires c =
