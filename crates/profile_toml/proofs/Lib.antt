@@ -8,3 +8,5 @@ pub mod Keys
 pub mod ModFacts
 pub mod OverrideFacts
 pub mod DocumentFacts
+pub mod Puts
+pub mod Documents

@@ -35,3 +35,7 @@ fresh v (y ∷ ys) x zs h =
 -- how many are left
 pub length_after : {X : Type 0} (rest before : List X) (x : X) (m n : ℕ) → before ≡ x ∷ rest → m + 1 ≡ n → n ≡ length before → m ≡ length rest
 length_after rest before x m n step less h = omega (arith, ap length step)
+
+pub all_last : {X : Type 0} (P : X → Type 0) (xs : List X) (x : X) → AllByRecursion P xs → P x → AllByRecursion P (xs ++ x ∷ [])
+all_last P [] x h p = (p, tt)
+all_last P (y ∷ ys) x h p = (h.0, all_last P ys x h.1 p)

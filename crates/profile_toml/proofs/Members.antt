@@ -28,7 +28,7 @@ apart_by : (k l : List ℕ) (b : Bool) → same_key l k ≡ b → same_key k l �
 apart_by k l true p h = sym (subst (λ x. same_key k x ≡ true) (sym (same l k p)) (same_itself k)) ∙ h
 apart_by k l false p h = refl
 
-apart : (k l : List ℕ) → same_key k l ≡ false → same_key l k ≡ false
+pub apart : (k l : List ℕ) → same_key k l ≡ false → same_key l k ≡ false
 apart k l h = apart_by k l (same_key l k) refl h
 
 skip : (o : Ordering) {A : Type 0} (a b : A) → is_eq o ≡ false → match_ordering o a b a ≡ a
@@ -102,7 +102,7 @@ levels-without_key : (k : List ℕ) (ms : Members) → members_levels (without_k
 levels-without_key k no_members = omega arith
 levels-without_key k (member j d ms) = levels_at k j d ms (same_key k j) refl (levels-without_key k ms)
 
-or_parts : (a b : Bool) → (a || b) ≡ false → (a ≡ false) × (b ≡ false)
+pub or_parts : (a b : Bool) → (a || b) ≡ false → (a ≡ false) × (b ≡ false)
 or_parts true b h = absurd (true_false h)
   where
     true_false : true ≡ false → ⊥

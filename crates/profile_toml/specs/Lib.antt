@@ -11,3 +11,5 @@ pub mod Rules
 pub mod Mods
 pub mod Overrides
 pub mod Profiles
+pub mod Kept
+pub mod Documents

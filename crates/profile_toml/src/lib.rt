@@ -8,6 +8,7 @@ mod maps;
 mod mod_entry;
 mod override_entry;
 mod pieces;
+mod print;
 mod profile;
 mod read;
 mod read_mods;
