@@ -10,3 +10,4 @@ pub mod OverrideFacts
 pub mod DocumentFacts
 pub mod Puts
 pub mod Documents
+pub mod Distinct
