@@ -11,3 +11,4 @@ pub mod DocumentFacts
 pub mod Puts
 pub mod Documents
 pub mod Distinct
+pub mod Printed

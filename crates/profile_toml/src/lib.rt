@@ -22,6 +22,7 @@ pub use error::ProfileError;
 pub use extra::Extra;
 pub use mod_entry::ModEntry;
 pub use override_entry::Override;
+pub use print::print_profile;
 pub use profile::{Profile, default_profile};
 pub use read::read_profile;
 pub use rule::{Rule, RuleKind};
