@@ -105,7 +105,7 @@ module _ (r : RuleData) (kept : IsRule r) where
   pub IsSound-rule : IsSound 60 (rule_data r)
   IsSound-rule =
       IsSound-table 59 (put_member (codes "kind") (string (word_of r.kind)) (ref_in r)) (AreSound-put 59 (codes "kind") (string (word_of r.kind)) (ref_in r) (IsSound-string 59 (word_of r.kind) (omega arith))
-        (AreSound-put 59 (codes "ref") (string r.refers) r.extra (IsSound-string 59 r.refers (omega arith)) (AreSound-unknown rule_keys 59 r.extra kept.extra)))
+      (AreSound-put 59 (codes "ref") (string r.refers) r.extra (IsSound-string 59 r.refers (omega arith)) (AreSound-unknown rule_keys 59 r.extra kept.extra)))
 
 rules_none : (at : List ℕ) (n : ℕ) (rs : List RuleData) → AllByRecursion IsRule rs → first_fault (λ j d. rule_fault (indexed at j) d) n (map rule_data rs) ≡ None
 rules_none at n [] h = refl
@@ -158,8 +158,8 @@ module _ (m : List ℕ × ModData) where
     pub mod_fault-data : (earlier : List (List ℕ)) (at : List ℕ) → list_any (pointwise nat_eq m.0) earlier ≡ false → mods.mod_fault earlier at (mod_data m) ≡ None
     mod_fault-data earlier at new =
         (λ i. option_or (text_fault bad_id (keyed at (codes "id")) (id_there i))
-            (option_or (fault_if (list_any (pointwise nat_eq (text_at (id_there i))) earlier) (SameMod (text_at (id_there i))))
-              (option_or (mods.enabled_fault (keyed at (codes "enabled")) (enabled_there i)) (rules_fault (keyed at (codes "rules")) (rules_there i)))))
+        (option_or (fault_if (list_any (pointwise nat_eq (text_at (id_there i))) earlier) (SameMod (text_at (id_there i))))
+        (option_or (mods.enabled_fault (keyed at (codes "enabled")) (enabled_there i)) (rules_fault (keyed at (codes "rules")) (rules_there i)))))
         ∙ (λ i. option_or (good_id (keyed at (codes "id")) m.0 kept.id i) (option_or (fault_if (new i) (SameMod m.0)) (rules_fault-data (keyed at (codes "rules")) m.1.rules kept.rules i)))
 
     pub mod_value-data : mods.mod_value (mod_data m) ≡ m
@@ -170,8 +170,8 @@ module _ (m : List ℕ × ModData) where
         let rules_sound : IsSound 61 (array (items_of (map rule_data m.1.rules))) = IsSound-array 60 (map rule_data m.1.rules) (AllSound-rules m.1.rules kept.rules) in
         let enabled_sound : IsSound 61 (boolean m.1.enabled) = record { shallow = omega arith; no_floats = refl } in
         IsSound-table 61 (put_member (codes "id") (string m.0) (enabled_in m)) (AreSound-put 61 (codes "id") (string m.0) (enabled_in m) (IsSound-string 61 m.0 (omega arith))
-          (AreSound-put 61 (codes "enabled") (boolean m.1.enabled) (rules_in m) enabled_sound
-            (AreSound-put 61 (codes "rules") (array (items_of (map rule_data m.1.rules))) m.1.extra rules_sound (AreSound-unknown mod_keys 61 m.1.extra kept.extra))))
+        (AreSound-put 61 (codes "enabled") (boolean m.1.enabled) (rules_in m) enabled_sound
+        (AreSound-put 61 (codes "rules") (array (items_of (map rule_data m.1.rules))) m.1.extra rules_sound (AreSound-unknown mod_keys 61 m.1.extra kept.extra))))
 
 mods_back : (ms : List (List ℕ × ModData)) → AllByRecursion IsMod ms → map mods.mod_value (map mod_data ms) ≡ ms
 mods_back [] h = refl
@@ -184,7 +184,7 @@ AllSound-mods (m ∷ ms) h = (IsSound-mod m h.0, AllSound-mods ms h.1)
 mods_none : (ms : List (List ℕ × ModData)) → AllByRecursion IsMod ms → IsDistinct (pointwise nat_eq) (keys_of ms) → mods.list_fault (map mod_data ms) ≡ None
 mods_none ms h distinct =
     none_at_all mod_data (λ m. m.0) mods.id_in id_in-data IsMod (λ earlier n d. mods.mod_fault earlier (indexed (codes "mods") n) d)
-      (λ m earlier n kept new. mod_fault-data m kept earlier (indexed (codes "mods") n) new) ms h distinct
+    (λ m earlier n kept new. mod_fault-data m kept earlier (indexed (codes "mods") n) new) ms h distinct
 
 -- ---- overrides
 
@@ -210,8 +210,8 @@ module _ (o : OverrideData) where
     pub override_fault-data : (earlier : List (List ℕ)) (at : List ℕ) → list_any (pointwise nat_eq o.path) earlier ≡ false → overrides.override_fault earlier at (override_data o) ≡ None
     override_fault-data earlier at new =
         (λ i. option_or (text_fault bad_path (keyed at (codes "path")) (path_there i))
-            (option_or (fault_if (list_any (pointwise nat_eq (text_at (path_there i))) earlier) (SameOverride (text_at (path_there i))))
-              (text_fault bad_id (keyed at (codes "mod")) (mod_there i))))
+        (option_or (fault_if (list_any (pointwise nat_eq (text_at (path_there i))) earlier) (SameOverride (text_at (path_there i))))
+        (text_fault bad_id (keyed at (codes "mod")) (mod_there i))))
         ∙ (λ i. option_or (good_path (keyed at (codes "path")) o.path kept.path i) (option_or (fault_if (new i) (SameOverride o.path)) (good_id (keyed at (codes "mod")) o.mod_id kept.mod_id i)))
 
     pub override_value-data : overrides.override_value (override_data o) ≡ o
@@ -220,7 +220,7 @@ module _ (o : OverrideData) where
     pub IsSound-override : IsSound 62 (override_data o)
     IsSound-override =
         IsSound-table 61 (put_member (codes "path") (string o.path) (mod_in o)) (AreSound-put 61 (codes "path") (string o.path) (mod_in o) (IsSound-string 61 o.path (omega arith))
-          (AreSound-put 61 (codes "mod") (string o.mod_id) o.extra (IsSound-string 61 o.mod_id (omega arith)) (AreSound-unknown override_keys 61 o.extra kept.extra)))
+        (AreSound-put 61 (codes "mod") (string o.mod_id) o.extra (IsSound-string 61 o.mod_id (omega arith)) (AreSound-unknown override_keys 61 o.extra kept.extra)))
 
 overrides_back : (os : List OverrideData) → AllByRecursion IsOverride os → map overrides.override_value (map override_data os) ≡ os
 overrides_back [] h = refl
@@ -233,7 +233,7 @@ AllSound-overrides (o ∷ os) h = (IsSound-override o h.0, AllSound-overrides os
 overrides_none : (os : List OverrideData) → AllByRecursion IsOverride os → IsDistinct (pointwise nat_eq) (map (λ o. o.path) os) → overrides.list_fault (map override_data os) ≡ None
 overrides_none os h distinct =
     none_at_all override_data (λ o. o.path) overrides.path_in path_in-data IsOverride (λ earlier n d. overrides.override_fault earlier (indexed (codes "overrides") n) d)
-      (λ o earlier n kept new. override_fault-data o kept earlier (indexed (codes "overrides") n) new) os h distinct
+    (λ o earlier n kept new. override_fault-data o kept earlier (indexed (codes "overrides") n) new) os h distinct
 
 -- ---- profiles
 
@@ -269,9 +269,9 @@ module _ (p : ProfileData) (kept : IsProfile p) where
   AreSound-profile =
       let one : IsSound 63 (integer (pos 1)) = record { shallow = omega arith; no_floats = refl } in
       AreSound-put 63 (codes "version") (integer (pos 1)) (mods_in p) one
-        (AreSound-put 63 (codes "mods") (array (items_of (map mod_data p.mods))) (overrides_in p) (IsSound-array 62 (map mod_data p.mods) (AllSound-mods p.mods kept.mods))
-          (AreSound-put 63 (codes "overrides") (array (items_of (map override_data p.overrides))) p.extra (IsSound-array 62 (map override_data p.overrides) (AllSound-overrides p.overrides kept.overrides))
-            (AreSound-unknown profile_keys 63 p.extra kept.extra)))
+      (AreSound-put 63 (codes "mods") (array (items_of (map mod_data p.mods))) (overrides_in p) (IsSound-array 62 (map mod_data p.mods) (AllSound-mods p.mods kept.mods))
+      (AreSound-put 63 (codes "overrides") (array (items_of (map override_data p.overrides))) p.extra (IsSound-array 62 (map override_data p.overrides) (AllSound-overrides p.overrides kept.overrides))
+      (AreSound-unknown profile_keys 63 p.extra kept.extra)))
 
   parts_fault-data : parts_fault (profile_members p) ≡ None
   parts_fault-data =

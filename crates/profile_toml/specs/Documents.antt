@@ -18,8 +18,8 @@ rule_data r = table (put_member (codes "kind") (string (word_of r.kind)) (put_me
 abbrev pub mod_data : List ℕ × ModData → Data
 mod_data m =
     table (put_member (codes "id") (string m.0)
-      (put_member (codes "enabled") (boolean m.1.enabled)
-        (put_member (codes "rules") (array (items_of (map rule_data m.1.rules))) m.1.extra)))
+    (put_member (codes "enabled") (boolean m.1.enabled)
+    (put_member (codes "rules") (array (items_of (map rule_data m.1.rules))) m.1.extra)))
 
 abbrev pub override_data : OverrideData → Data
 override_data o = table (put_member (codes "path") (string o.path) (put_member (codes "mod") (string o.mod_id) o.extra))
@@ -28,4 +28,4 @@ abbrev pub profile_members : ProfileData → Members
 profile_members p =
     put_member (codes "version") (integer (pos 1))
     (put_member (codes "mods") (array (items_of (map mod_data p.mods)))
-      (put_member (codes "overrides") (array (items_of (map override_data p.overrides))) p.extra))
+    (put_member (codes "overrides") (array (items_of (map override_data p.overrides))) p.extra))

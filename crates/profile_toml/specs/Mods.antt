@@ -37,7 +37,7 @@ mod_fault earlier at (table ms) =
     let id = get_member (codes "id") ms in
     option_or (text_fault bad_id (keyed at (codes "id")) id)
     (option_or (fault_if (list_any (pointwise nat_eq (text_at id)) earlier) (SameMod (text_at id)))
-      (entry_fault at ms))
+    (entry_fault at ms))
 mod_fault earlier at _ = Some (Shape at)
 
 -- the mod of a table, where there is no fault

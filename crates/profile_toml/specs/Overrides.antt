@@ -22,7 +22,7 @@ override_fault earlier at (table ms) =
     let path = get_member (codes "path") ms in
     option_or (text_fault bad_path (keyed at (codes "path")) path)
     (option_or (fault_if (list_any (pointwise nat_eq (text_at path)) earlier) (SameOverride (text_at path)))
-      (text_fault bad_id (keyed at (codes "mod")) (get_member (codes "mod") ms)))
+    (text_fault bad_id (keyed at (codes "mod")) (get_member (codes "mod") ms)))
 override_fault earlier at _ = Some (Shape at)
 
 -- the override, where it has no fault

@@ -28,7 +28,7 @@ abbrev pub document_fault : Members → Option ProfileError
 document_fault ms =
     option_or (fault_if (nat_lt 64 (suc (members_levels ms))) Deep)
     (option_or (fault_if (members_have_float ms) Float)
-      (option_or (fault_if (not (is_version_1 (get_member (codes "version") ms))) Version) (parts_fault ms)))
+    (option_or (fault_if (not (is_version_1 (get_member (codes "version") ms))) Version) (parts_fault ms)))
 
 -- the profile of a document without a fault
 abbrev pub document_value : Members → ProfileData

@@ -16,6 +16,8 @@ mod read_overrides;
 mod read_rules;
 mod rule;
 mod spot;
+#[cfg(test)]
+mod tests;
 mod text;
 
 pub use error::ProfileError;

@@ -16,12 +16,11 @@ loop-id-init c =
 pub loop-id-preserved : goal.loop-id-preserved
 loop-id-preserved c =
     let at = c.loop-id in
-    let step : at.id-iterator ≡ (c.in-Some.id, c.in-Some.entry) ∷ c.next.new.self = c.in-Some.ensures.steps in
-    (
+    let step : at.id-iterator ≡ (c.in-Some.id, c.in-Some.entry) ∷ c.next.new.self = c.in-Some.ensures.steps in (
       tt,
       tt,
       ap (λ l. map view l ++ map mod_data c.next.new.self) c.in_ok-add.ensures
-        ∙ printed_more mod_data at.array.items c.in_ok-value.value (c.in-Some.id, c.in-Some.entry) c.next.new.self at.id-iterator (map mod_data c.args.mods.entries) c.in_ok-value.ensures.data step at.invariant.2,
+          ∙ printed_more mod_data at.array.items c.in_ok-value.value (c.in-Some.id, c.in-Some.entry) c.next.new.self at.id-iterator (map mod_data c.args.mods.entries) c.in_ok-value.ensures.data step at.invariant.2,
       λ h. at.invariant.3 (subst (AllByRecursion IsMod) (sym step) (c.in_ok-value.ensures.kept, h)),
     )
 

@@ -17,24 +17,22 @@ loop-path-init c =
 pub loop-path-preserved : goal.loop-path-preserved
 loop-path-preserved c =
     let at = c.loop-path in
-    let step : at._path-iterator ≡ (c.in-Some._path, c.in-Some.entry) ∷ c.next.new.self = c.in-Some.ensures.steps in
-    (
+    let step : at._path-iterator ≡ (c.in-Some._path, c.in-Some.entry) ∷ c.next.new.self = c.in-Some.ensures.steps in (
       tt,
       tt,
       ap (λ l. map view l ++ map override_data (values_of c.next.new.self)) c.in_ok-add.ensures
-        ∙ printed_more override_data at.array.items c.in_ok-value.value c.in-Some.entry (values_of c.next.new.self) (values_of at._path-iterator) (map override_data (values_of c.args.overrides.entries)) c.in_ok-value.ensures.data (ap values_of step) at.invariant.2,
+          ∙ printed_more override_data at.array.items c.in_ok-value.value c.in-Some.entry (values_of c.next.new.self) (values_of at._path-iterator) (map override_data (values_of c.args.overrides.entries)) c.in_ok-value.ensures.data (ap values_of step) at.invariant.2,
       λ h. at.invariant.3 (subst (AllByRecursion IsOverride) (sym (ap values_of step)) (c.in_ok-value.ensures.kept, h)),
     )
 
 pub loop-path-preserved-in_ok-add : goal.loop-path-preserved-in_ok-add
 loop-path-preserved-in_ok-add c =
     let at = c.loop-path in
-    let step : at._path-iterator ≡ (c.in-Some._path, c.in-Some.entry) ∷ c.next.new.self = c.in-Some.ensures.steps in
-    (
+    let step : at._path-iterator ≡ (c.in-Some._path, c.in-Some.entry) ∷ c.next.new.self = c.in-Some.ensures.steps in (
       tt,
       tt,
       ap (λ l. map view l ++ map override_data (values_of c.next.new.self)) c.in_ok-add.ensures
-        ∙ printed_more override_data at.array.items c.in_ok-value.value c.in-Some.entry (values_of c.next.new.self) (values_of at._path-iterator) (map override_data (values_of c.args.overrides.entries)) c.in_ok-value.ensures.data (ap values_of step) at.invariant.2,
+          ∙ printed_more override_data at.array.items c.in_ok-value.value c.in-Some.entry (values_of c.next.new.self) (values_of at._path-iterator) (map override_data (values_of c.args.overrides.entries)) c.in_ok-value.ensures.data (ap values_of step) at.invariant.2,
       λ h. at.invariant.3 (subst (AllByRecursion IsOverride) (sym (ap values_of step)) (c.in_ok-value.ensures.kept, h)),
     )
 

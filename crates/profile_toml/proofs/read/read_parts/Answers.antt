@@ -20,19 +20,19 @@ pub returns-in_err-mods : goal.returns-in_err-mods
 returns-in_err-mods c =
     let rest = overrides_fault (get_member (codes "overrides") (table_view c.args.table)) in
     Reads-err _ _ _ c.in_err-mods.field-0.0 c.from_residual.ensures.1
-      (λ n. ap (λ d. option_or (mods_fault d) rest) (sym c.take.ensures.value) ∙ ap (λ f. option_or f rest) (c.in_err-mods.ensures n))
+    (λ n. ap (λ d. option_or (mods_fault d) rest) (sym c.take.ensures.value) ∙ ap (λ f. option_or f rest) (c.in_err-mods.ensures n))
 
 pub read_overrides-requires : goal.read_overrides-requires
 read_overrides-requires c =
     IsSound-taken 63 (codes "overrides") (table_view c.take.new.table) c.take-2.result c.take-2.ensures.value
-      (subst (AreSound 63) (sym c.take.ensures.left) (AreSound-without_key 63 (codes "mods") (table_view c.args.table) c.requires.sound))
+    (subst (AreSound 63) (sym c.take.ensures.left) (AreSound-without_key 63 (codes "mods") (table_view c.args.table) c.requires.sound))
 
 pub returns-in_err-overrides : goal.returns-in_err-overrides
 returns-in_err-overrides c =
     let ms = table_view c.args.table in
     let none : mods_fault (get_member (codes "mods") ms) ≡ None = ap mods_fault (sym c.take.ensures.value) ∙ c.in_ok-mods.ensures.0 in
     Reads-err _ _ _ c.in_err-overrides.field-0.0 c.from_residual-in_err-overrides.ensures.1
-      (λ n. parts_fault_is ms _ c.take.ensures.left none ∙ ap overrides_fault (sym c.take-2.ensures.value) ∙ c.in_err-overrides.ensures n)
+    (λ n. parts_fault_is ms _ c.take.ensures.left none ∙ ap overrides_fault (sym c.take-2.ensures.value) ∙ c.in_err-overrides.ensures n)
 
 pub invariant_of-result : goal.invariant_of-result
 invariant_of-result c =
@@ -47,8 +47,7 @@ returns c =
     let extra : c.of.result ≡ without profile_keys ms = c.of.ensures ∙ c.take-2.ensures.left ∙ ap (without_key (codes "overrides")) c.take.ensures.left ∙ unknown_is ms c.requires.no_version in
     let mods = c.in_ok-mods.ensures.1 ∙ ap mods_value c.take.ensures.value in
     let at = c.take-2.ensures.value ∙ overrides_is ms _ c.take.ensures.left in
-    let overrides = ap (map (λ e. e.1)) (c.in_ok-overrides.ensures.1 ∙ ap (λ d. map override_entry (items_at d)) at) ∙ values_made (items_at (get_member (codes "overrides") ms)) in
-    (
+    let overrides = ap (map (λ e. e.1)) (c.in_ok-overrides.ensures.1 ∙ ap (λ d. map override_entry (items_at d)) at) ∙ values_made (items_at (get_member (codes "overrides") ms)) in (
       parts_fault_is ms _ c.take.ensures.left none ∙ ap overrides_fault (sym c.take-2.ensures.value) ∙ c.in_ok-overrides.ensures.0,
       λ i. record { mods = mods i; overrides = overrides i; extra = extra i },
     )

@@ -30,4 +30,4 @@ returns c =
     let no_floats : members_have_float ms ≡ false = sym c.table_has_float.ensures ∙ c.if-table_has_float.false in
     let one : is_version_1 (get_member (codes "version") ms) ≡ true = ap is_version_1 (sym c.take.ensures.value) ∙ sym c.is_version_1.ensures ∙ c.if-not-is_version_1.false in
     subst (λ f. Reads f (document_value ms) c.read_parts.result) (sym (document_fault_is ms flat no_floats one left c.take.ensures.left))
-      (subst (λ v. Reads (parts_fault left) v c.read_parts.result) (document_value_is ms flat no_floats one left c.take.ensures.left) c.read_parts.ensures)
+    (subst (λ v. Reads (parts_fault left) v c.read_parts.result) (document_value_is ms flat no_floats one left c.take.ensures.left) c.read_parts.ensures)

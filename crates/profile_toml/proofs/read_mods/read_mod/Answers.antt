@@ -47,8 +47,8 @@ returns-in_err-entry-clause-err c =
     let none : text_fault bad_id (keyed (spot_path (Mod (length es))) (codes "id")) (get_member (codes "id") ms) ≡ None = ap (λ n. text_fault bad_id (keyed (spot_path (Mod n)) (codes "id")) (get_member (codes "id") ms)) (sym c.len-place.ensures.len) ∙ c.in_ok-id.ensures.reads.0 in
     let new : list_any (pointwise nat_eq id) (keys_of es) ≡ false = sym (found-any (pointwise nat_eq id) es) ∙ sym c.contains_key.ensures ∙ c.if-contains_key.false in
     Explains-err _ _ c.in_err-entry.field-0.0 c.from_residual-in_err-entry.ensures.1
-      (λ n. other_fault (keys_of es) (spot_path (Mod (length es))) d ms is id none c.in_ok-id.ensures.reads.1 left c.take_id.ensures.left new
-          ∙ ap (λ k. entry_fault (spot_path (Mod k)) left) (sym c.len-place.ensures.len) ∙ c.in_err-entry.ensures n)
+    (λ n. other_fault (keys_of es) (spot_path (Mod (length es))) d ms is id none c.in_ok-id.ensures.reads.1 left c.take_id.ensures.left new
+    ∙ ap (λ k. entry_fault (spot_path (Mod k)) left) (sym c.len-place.ensures.len) ∙ c.in_err-entry.ensures n)
 
 pub returns-clause-ok : goal.returns-clause-ok
 returns-clause-ok c =
@@ -59,10 +59,9 @@ returns-clause-ok c =
     let is : d ≡ table ms = table_is d ms (sym c.in-Some.ensures) in
     let id = c.in_ok-id.id in
     let none : text_fault bad_id (keyed (spot_path (Mod (length es))) (codes "id")) (get_member (codes "id") ms) ≡ None = ap (λ n. text_fault bad_id (keyed (spot_path (Mod n)) (codes "id")) (get_member (codes "id") ms)) (sym c.len-place.ensures.len) ∙ c.in_ok-id.ensures.reads.0 in
-    let new : list_any (pointwise nat_eq id) (keys_of es) ≡ false = sym (found-any (pointwise nat_eq id) es) ∙ sym c.contains_key.ensures ∙ c.if-contains_key.false in
-    (
+    let new : list_any (pointwise nat_eq id) (keys_of es) ≡ false = sym (found-any (pointwise nat_eq id) es) ∙ sym c.contains_key.ensures ∙ c.if-contains_key.false in (
       other_fault (keys_of es) (spot_path (Mod (length es))) d ms is id none c.in_ok-id.ensures.reads.1 left c.take_id.ensures.left new
-        ∙ ap (λ k. entry_fault (spot_path (Mod k)) left) (sym c.len-place.ensures.len) ∙ c.in_ok-entry.ensures.0,
+          ∙ ap (λ k. entry_fault (spot_path (Mod k)) left) (sym c.len-place.ensures.len) ∙ c.in_ok-entry.ensures.0,
       c.in_ok-add_mod.ensures
-        ∙ ap (λ e. es ++ e ∷ []) ((λ i. (id, c.in_ok-entry.ensures.1 i)) ∙ mod_value_is (keys_of es) (spot_path (Mod (length es))) d ms is id none c.in_ok-id.ensures.reads.1 left c.take_id.ensures.left),
+          ∙ ap (λ e. es ++ e ∷ []) ((λ i. (id, c.in_ok-entry.ensures.1 i)) ∙ mod_value_is (keys_of es) (spot_path (Mod (length es))) d ms is id none c.in_ok-id.ensures.reads.1 left c.take_id.ensures.left),
     )

@@ -40,9 +40,9 @@ returns-in_err-read_override c =
     let before = into_iter_items at.item-iterator in
     let earlier = earlier_keys path_in override_value es at.yielded before items at.invariant.made at.invariant.taken in
     ReadsBy-err _ _ _ _ c.in_err-read_override.field-0.0 c.from_residual.ensures.1
-      (λ m. ap list_fault (list_of-view items) ∙ scan_hit f (length es) d (map view (into_iter_items c.next.new.self)) (map view before) (first_fault f 0 (map view items)) (ap (map view) c.in-Some.ensures.steps.0) at.invariant.scanned
-        c.in_err-read_override.field-0.0
-        (λ n. ap (λ ks. override_fault ks (spot_path (Override (length es))) d) (sym earlier) ∙ c.in_err-read_override.ensures.err n) m)
+    (λ m. ap list_fault (list_of-view items) ∙ scan_hit f (length es) d (map view (into_iter_items c.next.new.self)) (map view before) (first_fault f 0 (map view items)) (ap (map view) c.in-Some.ensures.steps.0) at.invariant.scanned
+    c.in_err-read_override.field-0.0
+    (λ n. ap (λ ks. override_fault ks (spot_path (Override (length es))) d) (sym earlier) ∙ c.in_err-read_override.ensures.err n) m)
 
 pub loop-item-preserved : goal.loop-item-preserved
 loop-item-preserved c =
@@ -73,8 +73,7 @@ returns c =
     let f = fault_among (map view items) in
     let left = into_iter_items at.item-iterator in
     let empty : left ≡ [] = nothing_left left (sym at.invariant.length_is ∙ c.in-None.ensures.steps.0) in
-    let all = taken_all at.yielded left items _ at.invariant.length_is c.in-None.ensures.steps.0 at.invariant.taken in
-    (
+    let all = taken_all at.yielded left items _ at.invariant.length_is c.in-None.ensures.steps.0 at.invariant.taken in (
       ap list_fault (list_of-view items) ∙ scan_end f (length at.overrides.entries) (map view left) (first_fault f 0 (map view items)) (ap (map view) empty) at.invariant.scanned,
       at.invariant.made ∙ ap (map (λ v. override_entry (view v))) all ∙ map-view override_entry items,
     )

@@ -39,8 +39,8 @@ returns-in_err-mod_id-clause-err c =
     let none : text_fault bad_path (keyed (spot_path (Override (length es))) (codes "path")) (get_member (codes "path") ms) ≡ None = ap (λ n. text_fault bad_path (keyed (spot_path (Override n)) (codes "path")) (get_member (codes "path") ms)) (sym c.len-place.ensures.len) ∙ c.in_ok-path.ensures.reads.0 in
     let new : list_any (pointwise nat_eq path) (keys_of es) ≡ false = sym (found-any (pointwise nat_eq path) es) ∙ sym c.contains_key.ensures ∙ c.if-contains_key.false in
     Explains-err _ _ c.in_err-mod_id.field-0.0 c.from_residual-in_err-mod_id.ensures.1
-      (λ n. other_fault (keys_of es) (spot_path (Override (length es))) d ms is path none c.in_ok-path.ensures.reads.1 left c.take_path.ensures.left new
-          ∙ ap (λ k. text_fault bad_id (keyed (spot_path (Override k)) (codes "mod")) (get_member (codes "mod") left)) (sym c.len-place.ensures.len) ∙ c.in_err-mod_id.ensures.reads n)
+    (λ n. other_fault (keys_of es) (spot_path (Override (length es))) d ms is path none c.in_ok-path.ensures.reads.1 left c.take_path.ensures.left new
+    ∙ ap (λ k. text_fault bad_id (keyed (spot_path (Override k)) (codes "mod")) (get_member (codes "mod") left)) (sym c.len-place.ensures.len) ∙ c.in_err-mod_id.ensures.reads n)
 
 pub invariant_of-entry : goal.invariant_of-entry
 invariant_of-entry c =
@@ -59,11 +59,10 @@ returns-clause-ok c =
     let path = c.in_ok-path.path in
     let none : text_fault bad_path (keyed (spot_path (Override (length es))) (codes "path")) (get_member (codes "path") ms) ≡ None = ap (λ n. text_fault bad_path (keyed (spot_path (Override n)) (codes "path")) (get_member (codes "path") ms)) (sym c.len-place.ensures.len) ∙ c.in_ok-path.ensures.reads.0 in
     let new : list_any (pointwise nat_eq path) (keys_of es) ≡ false = sym (found-any (pointwise nat_eq path) es) ∙ sym c.contains_key.ensures ∙ c.if-contains_key.false in
-    let extra : c.of.result ≡ without override_keys ms = c.of.ensures ∙ c.take_id.ensures.left ∙ ap (without_key (codes "mod")) c.take_path.ensures.left in
-    (
+    let extra : c.of.result ≡ without override_keys ms = c.of.ensures ∙ c.take_id.ensures.left ∙ ap (without_key (codes "mod")) c.take_path.ensures.left in (
       other_fault (keys_of es) (spot_path (Override (length es))) d ms is path none c.in_ok-path.ensures.reads.1 left c.take_path.ensures.left new
-        ∙ ap (λ k. text_fault bad_id (keyed (spot_path (Override k)) (codes "mod")) (get_member (codes "mod") left)) (sym c.len-place.ensures.len) ∙ c.in_ok-mod_id.ensures.reads.0,
+          ∙ ap (λ k. text_fault bad_id (keyed (spot_path (Override k)) (codes "mod")) (get_member (codes "mod") left)) (sym c.len-place.ensures.len) ∙ c.in_ok-mod_id.ensures.reads.0,
       c.in_ok-add_override.ensures
-        ∙ ap (λ e. es ++ e ∷ []) ((λ i. (c.in_ok-key.ensures i, record { path = path; mod_id = c.in_ok-mod_id.mod_id; extra = extra i }))
+          ∙ ap (λ e. es ++ e ∷ []) ((λ i. (c.in_ok-key.ensures i, record { path = path; mod_id = c.in_ok-mod_id.mod_id; extra = extra i }))
           ∙ override_entry_is (keys_of es) (spot_path (Override (length es))) d ms is path none c.in_ok-path.ensures.reads.1 left c.take_path.ensures.left c.in_ok-mod_id.mod_id c.in_ok-mod_id.ensures.reads.1),
     )

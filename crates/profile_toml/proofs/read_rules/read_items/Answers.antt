@@ -38,10 +38,10 @@ returns-in_err-rule c =
     let before = into_iter_items at.item-iterator in
     let whole = first_fault f 0 (list_of (array_view c.args.array)) in
     ReadsBy-err _ _ _ _ c.in_err-rule.field-0.0 c.from_residual.ensures.1
-      (scan_hit f (vec_len at.rules) d (map view (into_iter_items c.next.new.self)) (map view before) whole (ap (map view) c.in-Some.ensures.steps.0)
-        (at.invariant.scanned ∙ ap (first_fault f 0) (sym (list_of-view items)))
-        c.in_err-rule.field-0.0
-        (λ m. ap (λ n. f n d) (sym c.len.ensures) ∙ c.in_err-rule.ensures m))
+    (scan_hit f (vec_len at.rules) d (map view (into_iter_items c.next.new.self)) (map view before) whole (ap (map view) c.in-Some.ensures.steps.0)
+    (at.invariant.scanned ∙ ap (first_fault f 0) (sym (list_of-view items)))
+    c.in_err-rule.field-0.0
+    (λ m. ap (λ n. f n d) (sym c.len.ensures) ∙ c.in_err-rule.ensures m))
 
 pub loop-item-preserved : goal.loop-item-preserved
 loop-item-preserved c =
@@ -68,8 +68,7 @@ returns c =
     let f = fault c.args.place in
     let left = into_iter_items at.item-iterator in
     let empty : left ≡ [] = nothing_left left (sym at.invariant.length_is ∙ c.in-None.ensures.steps.0) in
-    let all = taken_all at.yielded left items _ at.invariant.length_is c.in-None.ensures.steps.0 at.invariant.taken in
-    (
+    let all = taken_all at.yielded left items _ at.invariant.length_is c.in-None.ensures.steps.0 at.invariant.taken in (
       scan_end f (vec_len at.rules) (map view left) _ (ap (map view) empty) (at.invariant.scanned ∙ ap (first_fault f 0) (sym (list_of-view items))),
       at.invariant.made ∙ ap (map (λ v. rule_value (view v))) all ∙ map-view rule_value items,
     )

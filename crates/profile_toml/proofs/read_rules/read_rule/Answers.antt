@@ -32,8 +32,7 @@ returns c =
     let is : view c.args.value ≡ table ms = table_is (view c.args.value) ms (sym c.in-Some.ensures) in
     let extra : c.of.result ≡ without rule_keys ms = c.of.ensures ∙ c.take_id.ensures.left ∙ ap (without_key (codes "ref")) c.take_kind.ensures.left in
     let kind = c.in_ok-kind.ensures.reads in
-    let refers = c.in_ok-refers.ensures.reads in
-    (
+    let refers = c.in_ok-refers.ensures.reads in (
       rule_fault_is at (view c.args.value) ms is _ c.take_kind.ensures.left kind.0 ∙ refers.0,
       (λ i. record { kind = kind.1 i; refers = (refers.1 ∙ ap text_at (refers_is at (view c.args.value) ms is _ c.take_kind.ensures.left kind.0)) i; extra = extra i }) ∙ ap rule_value (sym is),
     )
