@@ -24,6 +24,10 @@ fn printed(rt: &impl AllocGlobal, text: &str) -> Result<String, Fail> {
     Ok(String::from_utf8(bytes)?)
 }
 
+fn has(rt: &impl Abort, text: &str, part: &str) {
+    assert!(rt; text.contains(part), "{part}");
+}
+
 #[test]
 fn the_example_is_the_profile_that_it_shows(rt: HostRuntime) -> Result<(), Fail> {
     let profile = read_profile(rt.alloc(), EXAMPLE.as_bytes())?;
@@ -45,18 +49,13 @@ fn the_example_is_the_profile_that_it_shows(rt: HostRuntime) -> Result<(), Fail>
 #[test]
 fn the_example_is_printed_and_read_back(rt: HostRuntime) -> Result<(), Fail> {
     let shown = printed(&rt, EXAMPLE)?;
-    for line in [
-        "version = 1",
-        "id = \"Texture Pack\"",
-        "enabled = true",
-        "kind = \"after\"",
-        "ref = \"Base Meshes\"",
-        "path = \"Data/textures/sky.dds\"",
-        "mod = \"Base Meshes\"",
-    ] {
-        assert!(rt; shown.contains(line), "{line}");
-    }
-    assert_eq!(rt; printed(&rt, shown.as_str())?.as_str(), shown.as_str());
+    let shown = shown.as_str();
+    has(&rt, shown, "version = 1");
+    has(&rt, shown, "id = \"Texture Pack\"");
+    has(&rt, shown, "kind = \"after\"");
+    has(&rt, shown, "path = \"Data/textures/sky.dds\"");
+    has(&rt, shown, "mod = \"Base Meshes\"");
+    assert_eq!(rt; printed(&rt, shown)?.as_str(), shown);
     Ok(())
 }
 
@@ -78,123 +77,97 @@ fn a_profile_of_plain_parts_is_printed_as_one_that_is_read(rt: HostRuntime) -> R
     Ok(())
 }
 
+fn check(rt: &(impl AllocGlobal + Abort), text: &str, want: &str) -> Result<(), Fail> {
+    assert_eq!(rt; answer(rt, text.as_bytes())?.as_str(), want, "{text}");
+    Ok(())
+}
+
+// The answer for a document whose `mods` has these items.
+fn check_mods(rt: &(impl AllocGlobal + Abort), items: &str, want: &str) -> Result<(), Fail> {
+    let text = format!(in rt.alloc(); "version = 1\nmods = [{items}]")?;
+    check(rt, text.as_str(), want)
+}
+
+fn check_overrides(rt: &(impl AllocGlobal + Abort), items: &str, want: &str) -> Result<(), Fail> {
+    let text = format!(in rt.alloc(); "version = 1\noverrides = [{items}]")?;
+    check(rt, text.as_str(), want)
+}
+
 #[test]
-fn each_fault_has_its_answer(rt: HostRuntime) -> Result<(), Fail> {
-    let cases = [
-        ("= 1", "NotToml"),
-        ("version = 1\nversion = 1", "NotToml"),
-        ("version = 1", "read"),
-        ("version = 1\nx = 1.5", "Float"),
-        ("version = 1\nx = [{ y = [inf] }]", "Float"),
-        ("version = 1\n[[mods]]\nid = 'a'\nx.y.z = nan", "Float"),
-        ("version = 1\nx = 2026-01-01", "read"),
-        ("", "Version"),
-        ("version = 2", "Version"),
-        ("version = '1'", "Version"),
-        ("version = 1\nmods = 3", "Shape(mods)"),
-        ("version = 1\nmods = []", "read"),
-        ("version = 1\nmods = [1]", "Shape(mods[0])"),
-        ("version = 1\nmods = [{}]", "Shape(mods[0].id)"),
-        ("version = 1\nmods = [{ id = 3 }]", "Shape(mods[0].id)"),
-        ("version = 1\nmods = [{ id = '' }]", "BadPath()"),
-        ("version = 1\nmods = [{ id = 'a/b' }]", "BadPath(a/b)"),
-        (
-            "version = 1\nmods = [{ id = 'a' }, { id = 'b' }, { id = 'a' }]",
-            "SameMod(a)",
-        ),
-        (
-            "version = 1\nmods = [{ id = 'a', enabled = false }]",
-            "read",
-        ),
-        (
-            "version = 1\nmods = [{ id = 'a', enabled = 1 }]",
-            "Shape(mods[0].enabled)",
-        ),
-        (
-            "version = 1\nmods = [{ id = 'a', rules = {} }]",
-            "Shape(mods[0].rules)",
-        ),
-        (
-            "version = 1\nmods = [{ id = 'a', rules = [1] }]",
-            "Shape(mods[0].rules[0])",
-        ),
-        (
-            "version = 1\nmods = [{ id = 'a' }, { id = 'b' }, { id = 'c' }, { id = 'd', rules = [{}] }]",
-            "Shape(mods[3].rules[0].kind)",
-        ),
-        (
-            "version = 1\nmods = [{ id = 'a', rules = [{ kind = 'Before', ref = 'b' }] }]",
-            "BadKind(Before)",
-        ),
-        (
-            "version = 1\nmods = [{ id = 'a', rules = [{ kind = 'before', ref = 'b' }, { kind = 'requires' }] }]",
-            "Shape(mods[0].rules[1].ref)",
-        ),
-        (
-            "version = 1\nmods = [{ id = 'a', rules = [{ kind = 'conflicts', ref = '..' }] }]",
-            "BadPath(..)",
-        ),
-        ("version = 1\noverrides = 'x'", "Shape(overrides)"),
-        ("version = 1\noverrides = [[]]", "Shape(overrides[0])"),
-        (
-            "version = 1\noverrides = [{ mod = 'a' }]",
-            "Shape(overrides[0].path)",
-        ),
-        (
-            "version = 1\noverrides = [{ path = '/x', mod = 'a' }]",
-            "BadPath(/x)",
-        ),
-        (
-            "version = 1\noverrides = [{ path = 'x', mod = 'a' }, { path = 'x', mod = 'b' }]",
-            "SameOverride(x)",
-        ),
-        (
-            "version = 1\noverrides = [{ path = 'x', mod = 'a' }, { path = 'y' }]",
-            "Shape(overrides[1].mod)",
-        ),
-        (
-            "version = 1\noverrides = [{ path = 'x', mod = 'a/b' }]",
-            "BadPath(a/b)",
-        ),
-    ];
-    for (text, want) in cases {
-        assert_eq!(rt; answer(&rt, text.as_bytes())?.as_str(), want, "{text}");
-    }
-    assert_eq!(rt; answer(&rt, b"version = 1 # \xff")?.as_str(), "NotToml");
+fn faults_of_the_document(rt: HostRuntime) -> Result<(), Fail> {
+    check(&rt, "= 1", "NotToml")?;
+    check(&rt, "version = 1", "read")?;
+    check(&rt, "version = 1\nx = 1.5", "Float")?;
+    check(&rt, "version = 1\nx = [{ y = inf }]", "Float")?;
+    check(&rt, "version = 1\nx = 2026-01-01", "read")?;
+    check(&rt, "", "Version")?;
+    check(&rt, "version = '1'", "Version")?;
+    check(&rt, "version = 1\nmods = 3", "Shape(mods)")?;
+    check(&rt, "version = 1\noverrides = 'x'", "Shape(overrides)")?;
+    assert_eq!(rt; answer(&rt, b"#\xff")?.as_str(), "NotToml");
     Ok(())
 }
 
 #[test]
+fn faults_of_mods(rt: HostRuntime) -> Result<(), Fail> {
+    check_mods(&rt, "", "read")?;
+    check_mods(&rt, "1", "Shape(mods[0])")?;
+    check_mods(&rt, "{}", "Shape(mods[0].id)")?;
+    check_mods(&rt, "{ id = '' }", "BadPath()")?;
+    check_mods(&rt, "{ id = 'a/b' }", "BadPath(a/b)")?;
+    check_mods(&rt, "{ id = 'a' }, { id = 'a' }", "SameMod(a)")?;
+    check_mods(&rt, "{ id = 'a', enabled = false }", "read")?;
+    check_mods(&rt, "{ id = 'a', enabled = 1 }", "Shape(mods[0].enabled)")?;
+    check_mods(&rt, "{ id = 'a', rules = {} }", "Shape(mods[0].rules)")?;
+    check_mods(&rt, "{ id = 'a', x = [nan] }", "Float")
+}
+
+// The answer for a document whose second mod has these rules.
+fn check_rules(rt: &(impl AllocGlobal + Abort), items: &str, want: &str) -> Result<(), Fail> {
+    let mods = format!(in rt.alloc(); "{{ id = 'a' }}, {{ id = 'b', rules = [{items}] }}")?;
+    check_mods(rt, mods.as_str(), want)
+}
+
+#[test]
+fn faults_of_rules(rt: HostRuntime) -> Result<(), Fail> {
+    check_rules(&rt, "", "read")?;
+    check_rules(&rt, "1", "Shape(mods[1].rules[0])")?;
+    check_rules(&rt, "{}", "Shape(mods[1].rules[0].kind)")?;
+    check_rules(&rt, "{ kind = 'Before' }", "BadKind(Before)")?;
+    check_rules(&rt, "{ kind = 'before' }", "Shape(mods[1].rules[0].ref)")?;
+    check_rules(&rt, "{ kind = 'requires', ref = '..' }", "BadPath(..)")?;
+    check_rules(&rt, "{ kind = 'conflicts', ref = 'c' }", "read")?;
+    check_rules(&rt, "{ kind = 'recommends', ref = 'c' }", "read")
+}
+
+#[test]
+fn faults_of_overrides(rt: HostRuntime) -> Result<(), Fail> {
+    check_overrides(&rt, "[]", "Shape(overrides[0])")?;
+    check_overrides(&rt, "{ mod = 'a' }", "Shape(overrides[0].path)")?;
+    check_overrides(&rt, "{ path = '/x' }", "BadPath(/x)")?;
+    check_overrides(&rt, "{ path = 'x' }", "Shape(overrides[0].mod)")?;
+    check_overrides(&rt, "{ path = 'x', mod = '.' }", "BadPath(.)")?;
+    check_overrides(&rt, "{ path = 'x/y', mod = 'a' }", "read")
+}
+
+#[test]
 fn of_two_faults_the_first_is_told(rt: HostRuntime) -> Result<(), Fail> {
-    let cases = [
-        ("version = 2\nx = 1.5", "Float"),
-        ("mods = 3", "Version"),
-        ("version = 1\nmods = 3\noverrides = 3", "Shape(mods)"),
-        (
-            "version = 1\nmods = [{ id = 'a', rules = 1 }, { id = 2 }]",
-            "Shape(mods[0].rules)",
-        ),
-        (
-            "version = 1\nmods = [{ id = 'a' }, { id = 'a', enabled = 1 }]",
-            "SameMod(a)",
-        ),
-        (
-            "version = 1\nmods = [{ id = 'a', enabled = 1, rules = 1 }]",
-            "Shape(mods[0].enabled)",
-        ),
-        (
-            "version = 1\nmods = [{ id = 'a', rules = [{ kind = 'x', ref = 1 }] }]",
-            "BadKind(x)",
-        ),
-        (
-            "version = 1\noverrides = [{ path = 'x', mod = 'a' }, { path = 'x', mod = 1 }]",
-            "SameOverride(x)",
-        ),
-    ];
-    for (text, want) in cases {
-        assert_eq!(rt; answer(&rt, text.as_bytes())?.as_str(), want, "{text}");
-    }
-    Ok(())
+    check(&rt, "version = 2\nx = 1.5", "Float")?;
+    check(&rt, "mods = 3", "Version")?;
+    check(&rt, "version = 1\noverrides = 3\nmods = 3", "Shape(mods)")?;
+    check_mods(&rt, "{ id = 'a', rules = 1 }, 2", "Shape(mods[0].rules)")?;
+    check_mods(&rt, "{ id = 'a' }, { id = 'a', enabled = 1 }", "SameMod(a)")?;
+    check_mods(
+        &rt,
+        "{ id = 'a', rules = 1, enabled = 1 }",
+        "Shape(mods[0].enabled)",
+    )?;
+    check_rules(&rt, "{ ref = 1, kind = 'x' }", "BadKind(x)")?;
+    check_overrides(
+        &rt,
+        "{ path = 'x', mod = 'a' }, { path = 'x' }",
+        "SameOverride(x)",
+    )
 }
 
 // A document in which a key holds so many arrays, one inside the other.
@@ -212,18 +185,12 @@ fn nested(rt: &impl AllocGlobal, count: usize, inner: &str) -> Result<String, Fa
 
 #[test]
 fn values_lie_at_most_64_levels_deep(rt: HostRuntime) -> Result<(), Fail> {
-    for (count, inner, want) in [
-        (63, "", "read"),
-        (64, "", "Deep"),
-        (62, "1", "read"),
-        (63, "1", "Deep"),
-        (63, "1.5", "Deep"),
-    ] {
-        let text = nested(&rt, count, inner)?;
-        assert_eq!(rt; answer(&rt, text.as_bytes())?.as_str(), want, "{count}");
-    }
+    check(&rt, nested(&rt, 63, "")?.as_str(), "read")?;
+    check(&rt, nested(&rt, 64, "")?.as_str(), "Deep")?;
+    check(&rt, nested(&rt, 62, "1")?.as_str(), "read")?;
+    check(&rt, nested(&rt, 63, "1.5")?.as_str(), "Deep")?;
     let deepest = nested(&rt, 62, "1")?;
-    assert!(rt; printed(&rt, deepest.as_str())?.contains("[1]"));
+    has(&rt, printed(&rt, deepest.as_str())?.as_str(), "[1]");
     Ok(())
 }
 
@@ -232,9 +199,11 @@ fn unknown_keys_are_printed(rt: HostRuntime) -> Result<(), Fail> {
     let text =
         "version = 1\na1 = 1\n[[mods]]\nid = 'm'\nb1 = 2\n[[mods.rules]]\nkind = 'after'\nref = 'n'\nc1 = 3\n[[overrides]]\npath = 'p'\nmod = 'm'\nd1 = [4, { e1 = 5 }]\n";
     let shown = printed(&rt, text)?;
-    for key in ["a1 = 1", "b1 = 2", "c1 = 3", "d1 = [4, { e1 = 5 }]"] {
-        assert!(rt; shown.contains(key), "{key}");
-    }
+    let shown = shown.as_str();
+    has(&rt, shown, "a1 = 1");
+    has(&rt, shown, "b1 = 2");
+    has(&rt, shown, "c1 = 3");
+    has(&rt, shown, "d1 = [4, { e1 = 5 }]");
     Ok(())
 }
 
