@@ -60,20 +60,22 @@ fn the_example_is_printed_and_read_back(rt: HostRuntime) -> Result<(), Fail> {
 }
 
 #[test]
-fn a_profile_of_plain_parts_is_printed_as_one_that_is_read(rt: HostRuntime) -> Result<(), Fail> {
-    let refers = ModId::parse(rt.alloc(), "b")?;
-    let rule = Rule::plain(rt.alloc(), RuleKind::After, refers);
-    let mut entry = ModEntry::plain(rt.alloc(), true);
-    entry.rules.push(rule)?;
-    let mut profile = Profile::plain(rt.alloc());
-    profile.mods.insert(ModId::parse(rt.alloc(), "a")?, entry)?;
-    let bytes = print_profile(rt.alloc(), profile)?;
-    let by_hand = String::from_utf8(bytes)?;
-    let text = "version = 1\nmods = [{ id = 'a', rules = [{ kind = 'after', ref = 'b' }] }]";
-    assert_eq!(rt; by_hand.as_str(), printed(&rt, text)?.as_str());
+fn plain_parts_have_what_they_are_given(rt: HostRuntime) -> Result<(), Fail> {
+    let rule = Rule::plain(rt.alloc(), RuleKind::Before, ModId::parse(rt.alloc(), "b")?);
+    assert_eq!(rt; rule.refers().text(), "b");
+    let entry = ModEntry::plain(rt.alloc(), false);
+    assert!(rt; !entry.is_enabled());
     let path = RelPath::parse(rt.alloc(), "x")?;
     let entry = Override::plain(rt.alloc(), path, ModId::parse(rt.alloc(), "a")?);
     assert_eq!(rt; entry.path().text(), "x");
+    Ok(())
+}
+
+#[test]
+fn a_plain_profile_is_printed_as_an_empty_one(rt: HostRuntime) -> Result<(), Fail> {
+    let bytes = print_profile(rt.alloc(), Profile::plain(rt.alloc()))?;
+    let text = String::from_utf8(bytes)?;
+    assert_eq!(rt; text.as_str(), printed(&rt, "version = 1")?.as_str());
     Ok(())
 }
 
