@@ -56,10 +56,6 @@ fn prints_alike(rt: &(impl AllocGlobal + Abort), text: &str) -> Result<(), Fail>
 
 #[test]
 fn the_example_is_printed_and_read_back(rt: HostRuntime) -> Result<(), Fail> {
-    let shown = printed(&rt, EXAMPLE)?;
-    has(&rt, shown.as_str(), "id = \"Texture Pack\"");
-    has(&rt, shown.as_str(), "kind = \"after\"");
-    has(&rt, shown.as_str(), "path = \"Data/textures/sky.dds\"");
     prints_alike(&rt, EXAMPLE)
 }
 
@@ -189,15 +185,28 @@ fn nested(rt: &impl AllocGlobal, count: usize, inner: &str) -> Result<String, Fa
     Ok(text)
 }
 
+fn check_nested(
+    rt: &(impl AllocGlobal + Abort),
+    count: usize,
+    inner: &str,
+    want: &str,
+) -> Result<(), Fail> {
+    let text = nested(rt, count, inner)?;
+    check(rt, text.as_str(), want)
+}
+
 #[test]
 fn values_lie_at_most_64_levels_deep(rt: HostRuntime) -> Result<(), Fail> {
-    check(&rt, nested(&rt, 63, "")?.as_str(), "read")?;
-    check(&rt, nested(&rt, 64, "")?.as_str(), "Deep")?;
-    check(&rt, nested(&rt, 62, "1")?.as_str(), "read")?;
-    check(&rt, nested(&rt, 63, "1.5")?.as_str(), "Deep")?;
-    let deepest = nested(&rt, 62, "1")?;
-    has(&rt, printed(&rt, deepest.as_str())?.as_str(), "[1]");
-    Ok(())
+    check_nested(&rt, 63, "", "read")?;
+    check_nested(&rt, 64, "", "Deep")?;
+    check_nested(&rt, 62, "1", "read")?;
+    check_nested(&rt, 63, "1.5", "Deep")
+}
+
+#[test]
+fn the_deepest_values_are_printed(rt: HostRuntime) -> Result<(), Fail> {
+    let text = nested(&rt, 62, "1")?;
+    prints_alike(&rt, text.as_str())
 }
 
 #[test]
