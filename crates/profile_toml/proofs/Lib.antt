@@ -1,0 +1,14 @@
+pub mod Lists
+pub mod Bounds
+pub mod Tables
+pub mod Members
+pub mod RuleFacts
+pub mod Scans
+pub mod Keys
+pub mod ModFacts
+pub mod OverrideFacts
+pub mod DocumentFacts
+pub mod Puts
+pub mod Documents
+pub mod Distinct
+pub mod Printed

@@ -1,0 +1,21 @@
+-- Values that a profile has nowhere.
+use Rattle.std.specs.Prelude.{Bool, true, false, not, ◌||◌}
+use Rattle.toml.specs.Data.{Data, float, datetime, array, table, Items, no_items, item, Members, no_members, member}
+use Rattle.toml_datetime.specs.Valid.{is_valid}
+
+-- whether the value is, or holds at any depth, a float or a date that isn't printed
+abbrev mutual
+  pub has_float : Data → Bool
+  has_float (float x) = true
+  has_float (datetime dt) = not (is_valid dt)
+  has_float (array ds) = items_have_float ds
+  has_float (table ms) = members_have_float ms
+  has_float _ = false
+
+  pub items_have_float : Items → Bool
+  items_have_float no_items = false
+  items_have_float (item d ds) = has_float d || items_have_float ds
+
+  pub members_have_float : Members → Bool
+  members_have_float no_members = false
+  members_have_float (member k d ms) = has_float d || members_have_float ms

@@ -1,0 +1,15 @@
+pub mod Stored
+pub mod Levels
+pub mod Floats
+pub mod Sound
+pub mod Unknown
+pub mod Records
+pub mod KeyPaths
+pub mod Faults
+pub mod Texts
+pub mod Rules
+pub mod Mods
+pub mod Overrides
+pub mod Profiles
+pub mod Kept
+pub mod Documents

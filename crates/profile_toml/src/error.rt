@@ -1,0 +1,41 @@
+// Why bytes are no profile.
+use crate::Text;
+use rel_paths::{ModId, RelPath};
+use std::alloc::AllocError;
+
+/// Why bytes are no profile. Of several faults the first is told: `NotToml`, `Deep`, `Float` and
+/// `Version` in this order, then those of the mods in order, then those of the overrides in order.
+#[derive(Debug, Drop)]
+pub enum ProfileError {
+    /// The bytes are no TOML document.
+    NotToml,
+    /// A value lies more than 64 levels deep; the document itself is level 1.
+    Deep,
+    /// A value is a float, or a date that isn't printed.
+    Float,
+    /// `version` is missing, or isn't the integer 1.
+    Version,
+    /// At this key path a value is missing or of the wrong kind, as `mods[3].rules[0].kind`.
+    Shape(Text),
+    /// This text is no mod's id, or no user path.
+    BadPath(Text),
+    /// This text is no kind of rule.
+    BadKind(Text),
+    /// This id stands twice.
+    SameMod(ModId),
+    /// This path stands twice.
+    SameOverride(RelPath),
+    /// Memory ran out.
+    Memory,
+}
+
+impl From<AllocError> for ProfileError {
+    ghost use Rattle.std.specs.Prelude.{◌≡◌};
+    ghost use Rattle.profile_toml.specs.declared.error.ProfileError.TheVariants.{Memory};
+
+    ghost from_gives = { λ _ e. e ≡ Memory };
+
+    fn from(_e: AllocError) -> ProfileError {
+        ProfileError::Memory
+    }
+}
