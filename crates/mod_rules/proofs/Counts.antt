@@ -127,3 +127,12 @@ node_of-at n (x ∷ xs) k m apart at = by x.1.enabled k refl at (λ j i. node_of
     by false i f here rest =
         let later = subst (λ l. slice_get l i ≡ Some m) (head_off x xs f) here in
         rw (other i later, f) (rest n i later)
+
+-- no more mods are enabled than there are
+pub length-enabled_of : (ms : List (List ℕ × ModData)) → length (enabled_of ms) ≤ length ms
+length-enabled_of [] = omega arith
+length-enabled_of (m ∷ ms) = by m.1.enabled (length-enabled_of ms)
+  where
+    by : (b : Bool) → length (enabled_of ms) ≤ length ms → length (cond b (m ∷ enabled_of ms) (enabled_of ms)) ≤ suc (length ms)
+    by true h = omega arith
+    by false h = omega arith
