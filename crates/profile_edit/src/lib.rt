@@ -7,6 +7,8 @@ mod error;
 mod mods;
 mod overrides;
 mod rules;
+#[cfg(test)]
+mod tests;
 
 pub use dispatch::apply;
 pub use edit::Edit;
