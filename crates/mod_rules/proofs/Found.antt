@@ -1,12 +1,12 @@
 -- The edges that the loops find are those of the rules.
-use Rattle.std.proofs.Common.{◌≡◌, ℕ, ◌+◌, ◌<◌, zero, suc, List, [], ◌∷◌, ◌++◌, Bool, true, false, cond, Option, None, Some, ◌⊎◌, inl, inr, ◌↔◌, Contains, All, ◌||◌, length, append-nil, append_assoc, get_or, slice_get, add-zero, zero-add, refl, sym, ap, subst, ◌∙◌, nat_eq, arith}
+use Rattle.std.proofs.Common.{◌≡◌, ℕ, ◌+◌, ◌<◌, zero, suc, List, [], ◌∷◌, ◌++◌, Bool, true, Option, None, Some, ◌⊎◌, inl, inr, ◌↔◌, Contains, All, ◌||◌, length, append-nil, append_assoc, get_or, slice_get, add-zero, zero-add, refl, sym, ap, subst, ◌∙◌, nat_eq, arith}
 use Rattle.std.proofs.lemmas.List.Elements.{Contains-get_or, Contains-append_left, Contains-append_right, Contains-append_cases}
-use Rattle.std.proofs.lemmas.List.Folds.{list_any_at, list_any-append, Any-from_list_any, list_any-from_Any}
+use Rattle.std.proofs.lemmas.List.Folds.{list_any_at, list_any-append, Any-from_list_any}
 use Rattle.std.proofs.lemmas.Map.Lookups.{exact_unsigned, exact_pairs}
-use Rattle.std.specs.List.{list_any, filter_map, cons_option, IsDistinct, Any}
+use Rattle.std.specs.List.{list_any, filter_map, cons_option, IsDistinct}
 use Rattle.std.specs.Map.{keys_of}
 use Rattle.std.specs.Option.{option_map}
-use Rattle.std.specs.Ordering.{nat_cmp, ordering_then, is_eq}
+use Rattle.std.specs.Ordering.{nat_cmp, is_eq}
 use Rattle.std.specs.declared.cmp.Ordering.{Ordering}
 use Rattle.std.specs.declared.cmp.Ordering.TheVariants.{Less, Equal, Greater}
 use Rattle.std.specs.Cmp.{nat_cmp_is}
@@ -15,10 +15,10 @@ use Rattle.profile_toml.specs.declared.rule.RuleKind.{RuleKind}
 use Rattle.profile_toml.specs.declared.rule.RuleKind.TheVariants.{Before, After, Requires, Conflicts, Recommends}
 use Rattle.profile_toml.specs.Records.{ModData, RuleData}
 use Rattle.mod_rules.specs.Nodes.{enabled_of}
-use Rattle.mod_rules.specs.Edges.{IsEdge, HasRule, edge_cmp}
+use Rattle.mod_rules.specs.Edges.{IsEdge, edge_cmp}
 use Rattle.mod_rules.specs.Pairs.{node_of, kind_pair, rule_pair, pairs_of, is_edge}
 use Rattle.mod_rules.proofs.Steps.{enabled_of-on}
-use Rattle.mod_rules.proofs.Counts.{node_of-Some, node_of-at, place_below, IsAt}
+use Rattle.mod_rules.proofs.Counts.{node_of-Some, node_of-at, place_below}
 
 -- ---- members of lists
 
@@ -53,16 +53,16 @@ gives f (r ∷ rs) q h = by (f r) refl (gives f rs q)
     by None e rest = given_later f r rs q (rest (subst (λ o. Contains (cons_option o (filter_map f rs)) q) e h))
     by (Some p) e rest =
         elim (first_or_later p q (filter_map f rs) (subst (λ o. Contains (cons_option o (filter_map f rs)) q) e h)) [
-          inl same ↦ record { rule = r; among = first_is r rs; is = e ∙ ap (λ x. Some x) same }
-        | inr later ↦ given_later f r rs q (rest later)
+          | inl same ↦ record { rule = r; among = first_is r rs; is = e ∙ ap (λ x. Some x) same }
+          | inr later ↦ given_later f r rs q (rest later)
         ]
 
 given : (f : RuleData → Option (ℕ × ℕ)) (rs : List RuleData) (r : RuleData) (q : ℕ × ℕ) → Contains rs r → f r ≡ Some q → Contains (filter_map f rs) q
 given f [] r q h is = absurd (omega (arith, h.1))
 given f (x ∷ rs) r q h is =
     elim (first_or_later x r rs h) [
-      inl same ↦ subst (λ o. Contains (cons_option o (filter_map f rs)) q) (sym (ap f same ∙ is)) (first_is q (filter_map f rs))
-    | inr later ↦ by (f x) (given f rs r q later is)
+      | inl same ↦ subst (λ o. Contains (cons_option o (filter_map f rs)) q) (sym (ap f same ∙ is)) (first_is q (filter_map f rs))
+      | inr later ↦ by (f x) (given f rs r q later is)
     ]
   where
     by : (o : Option (ℕ × ℕ)) → Contains (filter_map f rs) q → Contains (cons_option o (filter_map f rs)) q
@@ -84,12 +84,12 @@ module _ (mods : List (List ℕ × ModData)) where
   found n [] q h = absurd (omega (arith, h.1))
   found n (m ∷ ms) q h =
       elim (Contains-append_cases (filter_map (rule_pair mods n) m.1.rules) (pairs_of mods (n + 1) ms) q h) [
-        inl here ↦
-          let g = gives (rule_pair mods n) m.1.rules q here in
-          record { place = 0; entry = m; rule = g.rule; at = refl; among = g.among; is = rw add-zero g.is }
-      | inr there ↦
-          let f = found (n + 1) ms q there in
-          record { place = suc f.place; entry = f.entry; rule = f.rule; at = f.at; among = f.among; is = subst (λ k. rule_pair mods k f.rule ≡ Some q) (omega arith) f.is }
+        | inl here ↦
+            let g = gives (rule_pair mods n) m.1.rules q here in
+            record { place = 0; entry = m; rule = g.rule; at = refl; among = g.among; is = rw add-zero g.is }
+        | inr there ↦
+            let f = found (n + 1) ms q there in
+            record { place = suc f.place; entry = f.entry; rule = f.rule; at = f.at; among = f.among; is = subst (λ k. rule_pair mods k f.rule ≡ Some q) (omega arith) f.is }
       ]
 
   listed : (n : ℕ) (nodes : List (List ℕ × ModData)) (q : ℕ × ℕ) (k : ℕ) (m : List ℕ × ModData) (r : RuleData) → slice_get nodes k ≡ Some m → Contains m.1.rules r
@@ -156,12 +156,12 @@ module _ (mods : List (List ℕ × ModData)) where
   pub pair_from_edge : (a b : ℕ) → IsDistinct (pointwise nat_eq) (keys_of mods) → IsEdge (enabled_of mods) a b → Contains (pairs_of mods 0 (enabled_of mods)) (a, b)
   pair_from_edge a b apart h =
       elim h.ruled [
-        inl rule ↦
-          let node : node_of 0 rule.rule.refers mods ≡ Some a = ap (λ id. node_of 0 id mods) rule.refers_to ∙ node_of-at 0 mods a h.first apart h.first_at ∙ ap (λ j. Some j) (zero-add a) in
-          listed 0 (enabled_of mods) (a, b) b h.second rule.rule h.second_at rule.among (rw (rule.of_kind, node) (ap (λ j. Some (a, j)) (zero-add b)))
-      | inr rule ↦
-          let node : node_of 0 rule.rule.refers mods ≡ Some b = ap (λ id. node_of 0 id mods) rule.refers_to ∙ node_of-at 0 mods b h.second apart h.second_at ∙ ap (λ j. Some j) (zero-add b) in
-          listed 0 (enabled_of mods) (a, b) a h.first rule.rule h.first_at rule.among (rw (rule.of_kind, node) (ap (λ j. Some (j, b)) (zero-add a)))
+        | inl rule ↦
+            let node : node_of 0 rule.rule.refers mods ≡ Some a = ap (λ id. node_of 0 id mods) rule.refers_to ∙ node_of-at 0 mods a h.first apart h.first_at ∙ ap (λ j. Some j) (zero-add a) in
+            listed 0 (enabled_of mods) (a, b) b h.second rule.rule h.second_at rule.among (rw (rule.of_kind, node) (ap (λ j. Some (a, j)) (zero-add b)))
+        | inr rule ↦
+            let node : node_of 0 rule.rule.refers mods ≡ Some b = ap (λ id. node_of 0 id mods) rule.refers_to ∙ node_of-at 0 mods b h.second apart h.second_at ∙ ap (λ j. Some j) (zero-add b) in
+            listed 0 (enabled_of mods) (a, b) a h.first rule.rule h.first_at rule.among (rw (rule.of_kind, node) (ap (λ j. Some (j, b)) (zero-add a)))
       ]
 
 -- ---- the keys of the set
@@ -189,11 +189,12 @@ contains_from_any t xs q only h =
 -- the keys of a set that has the pairs are the edges
 pub edges_are : (mods : List (List ℕ × ModData)) (keys : List (ℕ × ℕ)) → IsDistinct (pointwise nat_eq) (keys_of mods)
     → ((q : ℕ × ℕ) → list_any (λ e. is_edge q e) keys ≡ list_any (λ e. is_edge e q) (pairs_of mods 0 (enabled_of mods))) → (a b : ℕ) → Contains keys (a, b) ↔ IsEdge (enabled_of mods) a b
-edges_are mods keys apart h a b =
-    (λ has. edge_from_pair mods a b (contains_from_any (λ e. is_edge e (a, b)) (pairs_of mods 0 (enabled_of mods)) (a, b) (λ x s. is_same x (a, b) s)
-        (sym (h (a, b)) ∙ any_from_contains (λ e. is_edge (a, b) e) keys (a, b) (same_is (a, b)) has)),
-    λ edge. contains_from_any (λ e. is_edge (a, b) e) keys (a, b) (λ x s. sym (is_same (a, b) x s))
-        (h (a, b) ∙ any_from_contains (λ e. is_edge e (a, b)) (pairs_of mods 0 (enabled_of mods)) (a, b) (same_is (a, b)) (pair_from_edge mods a b apart edge)))
+edges_are mods keys apart h a b = (
+  λ has. edge_from_pair mods a b (contains_from_any (λ e. is_edge e (a, b)) (pairs_of mods 0 (enabled_of mods)) (a, b) (λ x s. is_same x (a, b) s)
+      (sym (h (a, b)) ∙ any_from_contains (λ e. is_edge (a, b) e) keys (a, b) (same_is (a, b)) has)),
+  λ edge. contains_from_any (λ e. is_edge (a, b) e) keys (a, b) (λ x s. sym (is_same (a, b) x s))
+      (h (a, b) ∙ any_from_contains (λ e. is_edge e (a, b)) (pairs_of mods 0 (enabled_of mods)) (a, b) (same_is (a, b)) (pair_from_edge mods a b apart edge)),
+)
 
 -- both nodes of an edge are among the enabled mods
 pub edges_within : (nodes : List (List ℕ × ModData)) (keys : List (ℕ × ℕ)) → ((a b : ℕ) → Contains keys (a, b) ↔ IsEdge nodes a b) → All (λ e. (e.0 < length nodes) × (e.1 < length nodes)) keys

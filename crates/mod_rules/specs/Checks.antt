@@ -1,10 +1,10 @@
 -- The first failing rule.
-use Rattle.std.specs.Prelude.{◌≡◌, ℕ, List, Bool, false, not, ◌&&◌, Option, None, Some, map, find}
+use Rattle.std.specs.Prelude.{◌≡◌, ℕ, List, Bool, false, not, ◌&&◌, Option, Some, map, find}
 use Rattle.std.specs.List.{flat_map}
 use Rattle.std.specs.Option.{option_map}
 use Rattle.std.specs.Str.{bytes_eq}
 use Rattle.profile_toml.specs.declared.rule.RuleKind.{RuleKind}
-use Rattle.profile_toml.specs.declared.rule.RuleKind.TheVariants.{Before, After, Requires, Conflicts, Recommends}
+use Rattle.profile_toml.specs.declared.rule.RuleKind.TheVariants.{Requires, Conflicts}
 use Rattle.profile_toml.specs.Records.{ProfileData, ModData, RuleData}
 use Rattle.mod_rules.specs.declared.error.RuleError.{RuleError}
 use Rattle.mod_rules.specs.declared.error.RuleError.TheVariants.{Missing, Conflict, Memory}

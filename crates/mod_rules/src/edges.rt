@@ -51,10 +51,7 @@ fn add_edges(
 }
 
 // The edges of a set, in order.
-fn listed(
-    alloc: Global,
-    edges: BTreeSet<(u32, u32)>,
-) -> Result<Vec<(u32, u32)>, AllocError>
+fn listed(alloc: Global, edges: BTreeSet<(u32, u32)>) -> Result<Vec<(u32, u32)>, AllocError>
     ensures items { IfOk result (λ list. list.items ≡ edges.keys) }
     ensures ascending { IfOk result (λ list. AreAscending list.items) }
 {

@@ -28,11 +28,7 @@ pub(crate) fn counts_before(
 }
 
 // The node of the mod with this id, if it is enabled.
-pub(crate) fn node_of(
-    mods: &IndexMap<ModId, ModEntry>,
-    counts: &[u32],
-    id: &ModId,
-) -> Option<u32>
+pub(crate) fn node_of(mods: &IndexMap<ModId, ModEntry>, counts: &[u32], id: &ModId) -> Option<u32>
     requires { counts.now ≡ counts_before 0 mods.now.entries }
     ensures { result ≡ node_of 0 id.now mods.now.entries }
 {

@@ -113,7 +113,10 @@ fn a_required_mod_has_to_be_enabled(rt: HostRuntime) -> Result<(), Fail> {
 #[test]
 fn rules_about_an_absent_mod_do_nothing(rt: HostRuntime) -> Result<(), Fail> {
     let alloc = rt.alloc();
-    let rules = [("a", RuleKind::Before, "z"), ("a", RuleKind::Conflicts, "z")];
+    let rules = [
+        ("a", RuleKind::Before, "z"),
+        ("a", RuleKind::Conflicts, "z"),
+    ];
     let profile = profile_of(alloc, &[("a", true)], &rules)?;
     assert!(rt; check_rules(alloc, &profile).is_ok());
     let graph = graph(alloc, &profile, &rt)?;

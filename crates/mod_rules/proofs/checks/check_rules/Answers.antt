@@ -1,4 +1,4 @@
-use Rattle.std.proofs.Common.{◌≡◌, ◌++◌, ◌∷◌, [], Some, map, find, ap, sym, subst, ◌∙◌, arith}
+use Rattle.std.proofs.Common.{◌≡◌, ◌++◌, ◌∷◌, [], Some, map, find, ap, sym, subst, ◌∙◌}
 use Rattle.std.specs.Map.Iter.{deref_pair}
 use Rattle.std.specs.List.{flat_map}
 use Rattle.std.specs.Option.{option_map, option_copied}
@@ -15,7 +15,7 @@ returns-in-Some-failing_rule-clause-err c = λ _.
     let step = ap (λ l. map deref_pair at.yielded ++ l) (sym c.in-Some.ensures.steps) ∙ at.invariant.taken in
     let has = ap (find (λ r. is_failing mods (c.in-Some.id.now, r))) (sym c.rules.ensures) ∙ sym c.in-Some-failing_rule.ensures in
     let found = first_found (is_failing mods) (map deref_pair at.yielded) (c.in-Some.id.now, c.in-Some.entry.now) c.next.new.self mods c.in-Some-failing_rule.rule.now step
-          (sym c.is_enabled.ensures ∙ c.if-is_enabled.true) at.invariant.none has in
+    (sym c.is_enabled.ensures ∙ c.if-is_enabled.true) at.invariant.none has in
     subst (λ ms. option_map error_of (find (is_failing ms) (flat_map rules_of (enabled_of ms))) ≡ Some c.in_ok-error_of.field-0) c.mods-mods.ensures
     (ap (option_map error_of) found ∙ ap (λ e. Some e) (sym c.in_ok-error_of.ensures))
 

@@ -1,4 +1,4 @@
-use Rattle.std.proofs.Common.{◌≡◌, ◌<◌, ◌++◌, ◌∷◌, [], ◌↔◌, ◌||◌, ℕ, Contains, All, map, ap, sym, subst, ◌∙◌, length, arith}
+use Rattle.std.proofs.Common.{◌∷◌, [], ◌↔◌, ◌||◌, ℕ, Contains, map, ap, sym, subst, ◌∙◌, length}
 use Rattle.std.specs.BTreeSet.{contains}
 use Rattle.std.specs.List.{list_any, filter_map}
 use Rattle.std.specs.Map.Iter.{deref_pair}
@@ -6,7 +6,7 @@ use Rattle.std.proofs.lemmas.List.{map-append}
 use Rattle.mod_rules.specs.Nodes.{enabled_of}
 use Rattle.mod_rules.specs.Edges.{IsEdge, AreWithin, edge_cmp}
 use Rattle.mod_rules.specs.Pairs.{rule_pair, pairs_of, is_edge}
-use Rattle.mod_rules.proofs.Steps.{seen_more, seen_all, counted_on, counted_off, room_for}
+use Rattle.mod_rules.proofs.Steps.{seen_more, seen_all, counted_on}
 use Rattle.mod_rules.proofs.Found.{found_more, edges_are, edges_within}
 use Rattle.mod_rules.proofs.edges.graph_of.Goals as goal
 
@@ -20,8 +20,8 @@ loop-entry-preserved-then-is_enabled c =
       taken = seen_more deref_pair at.yielded (c.in-Some.field-0-0, c.in-Some.entry) c.next.new.self at.entry-iterator mods c.in-Some.ensures.steps at.invariant.taken;
       count_is = counted_on (map deref_pair at.yielded) _ _ at.count more on at.invariant.count_is;
       found = λ q.
-        let rules = ap (λ l. contains edge_cmp at.edges q || list_any (λ e. is_edge e q) (filter_map (rule_pair mods at.count) l)) c.rules.ensures in
-        found_more mods (map deref_pair at.yielded) (c.in-Some.field-0-0.now, c.in-Some.entry.now) _ at.count q (contains edge_cmp at.edges q) _ more on at.invariant.count_is (c.in_ok-add_edges.ensures q ∙ rules) (at.invariant.found q);
+          let rules = ap (λ l. contains edge_cmp at.edges q || list_any (λ e. is_edge e q) (filter_map (rule_pair mods at.count) l)) c.rules.ensures in
+          found_more mods (map deref_pair at.yielded) (c.in-Some.field-0-0.now, c.in-Some.entry.now) _ at.count q (contains edge_cmp at.edges q) _ more on at.invariant.count_is (c.in_ok-add_edges.ensures q ∙ rules) (at.invariant.found q);
     }
 
 pub of-requires-clause-within : goal.of-requires-clause-within

@@ -1,4 +1,4 @@
-use Rattle.std.proofs.Common.{◌≡◌, ◌<◌, Some, None, get_or, cond, sym, ◌∙◌, ap, arith, length}
+use Rattle.std.proofs.Common.{Some, None, get_or, cond, sym, ◌∙◌, ap, arith, length}
 use Rattle.mod_rules.specs.Pairs.{counts_before}
 use Rattle.mod_rules.proofs.Counts.{node_of-None, node_of-place, place_below, length-counts_before}
 use Rattle.mod_rules.proofs.nodes.node_of.Goals as goal
