@@ -1,6 +1,6 @@
 -- Entries with the value at a key changed.
-use Rattle.std.proofs.Common.{◌≡◌, ◌≢◌, ◌≤◌, ◌<◌, ℕ, ◌+◌, zero, suc, List, [], ◌∷◌, ◌++◌, Bool, true, false, cond, not, nat_lt, Option, None, Some, length, position, refl, sym, ap, subst, ◌∙◌, length-append, arith}
-use Rattle.std.specs.Prelude.{MatchBool, remove}
+use Rattle.std.proofs.Common.{◌≡◌, ◌≢◌, ◌<◌, ℕ, List, [], ◌∷◌, ◌++◌, Bool, true, false, cond, not, nat_lt, None, Some, length, position, refl, sym, ap, subst, ◌∙◌, length-append, arith}
+use Rattle.std.specs.Prelude.{MatchBool}
 use Rattle.std.specs.List.{position_or_len}
 use Rattle.std.specs.Map.{lookup, set_value}
 use Rattle.std.specs.Option.{option_map_or}
@@ -9,7 +9,7 @@ use Rattle.std.proofs.lemmas.Map.Steps.{set_value_same}
 use Rattle.std.proofs.lemmas.List.Edits.{length-remove}
 use Rattle.std.proofs.lemmas.List.Quantifiers.{position-Some}
 use Rattle.profile_toml.specs.declared.rule.RuleKind.{RuleKind}
-use Rattle.profile_toml.specs.Records.{ModData, RuleData}
+use Rattle.profile_toml.specs.Records.{ModData}
 use Rattle.profile_edit.specs.Parts.{value_at, with_value, with_enabled, with_rule, without_rule, is_rule}
 
 pub with_value-None : {X : Type 0} (key : List ℕ) (f : X → X) (es : List (List ℕ × X)) → value_at key es ≡ None → with_value key f es ≡ es

@@ -1,5 +1,5 @@
 -- What a profile is after an edit, and why an edit is refused.
-use Rattle.std.specs.Prelude.{◌≡◌, ◌≢◌, ℕ, ◌+◌, List, [], ◌∷◌, ◌++◌, Bool, true, false, not, ◌&&◌, nat_lt, Option, None, Some, is_none, is_some, map, length, Result, Ok, Err, MatchBool, if◌then◌else◌}
+use Rattle.std.specs.Prelude.{◌≡◌, ◌≢◌, ℕ, ◌+◌, List, [], ◌∷◌, ◌++◌, Bool, true, false, not, ◌&&◌, nat_lt, Option, None, Some, is_none, is_some, length, Result, Ok, Err, MatchBool, if◌then◌else◌}
 use Rattle.std.specs.Map.{remove_entry, values_of}
 use Rattle.std.specs.Option.{option_map_or}
 use Rattle.std.specs.Str.{bytes_eq}

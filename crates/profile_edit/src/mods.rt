@@ -19,11 +19,7 @@ pub(crate) fn no_mod(id: &ModId) -> Result<EditError, AllocError>
 }
 
 // Enables or disables the mod with this id, and tells whether it was enabled.
-fn set_enabled(
-    mods: &mut IndexMap<ModId, ModEntry>,
-    id: &ModId,
-    enabled: bool,
-) -> Option<bool>
+fn set_enabled(mods: &mut IndexMap<ModId, ModEntry>, id: &ModId, enabled: bool) -> Option<bool>
     ensures was { result ≡ option_map (λ m. m.enabled) (value_at id.now mods.old.entries) }
     ensures after { mods.new.entries ≡ with_value id.now (with_enabled enabled) mods.old.entries }
 {
@@ -58,10 +54,7 @@ pub(crate) fn enable(
     }
 }
 
-pub(crate) fn disable(
-    mods: &mut IndexMap<ModId, ModEntry>,
-    id: &ModId,
-) -> Result<bool, EditError>
+pub(crate) fn disable(mods: &mut IndexMap<ModId, ModEntry>, id: &ModId) -> Result<bool, EditError>
     ensures { Applies (no_mod_fault id.now mods.old.entries) mods.old.entries (with_value id.now (with_enabled false) mods.old.entries) mods.new.entries result }
 {
     match set_enabled(mods, id, false) {

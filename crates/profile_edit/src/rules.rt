@@ -31,11 +31,7 @@ fn place_of(kind: RuleKind, refers: &ModId, rules: &[Rule]) -> Option<usize>
 }
 
 // Adds a rule to the mod with this id, last.
-fn push_rule(
-    mods: &mut IndexMap<ModId, ModEntry>,
-    id: &ModId,
-    rule: Rule,
-) -> Result<(), AllocError>
+fn push_rule(mods: &mut IndexMap<ModId, ModEntry>, id: &ModId, rule: Rule) -> Result<(), AllocError>
     ensures ok { OnOk result (mods.new.entries ≡ with_value id.now (λ m. record m { rules = m.rules ++ rule ∷ [] }) mods.old.entries) }
     ensures err { OnErr result (mods.new.entries ≡ mods.old.entries) }
 {

@@ -91,7 +91,10 @@ fn a_rule_is_added_once_and_dropped_once(rt: HostRuntime) -> Result<(), Fail> {
     let mut profile = profile_with_a(alloc)?;
     let edit = add_rule(alloc, "a", "b")?;
     assert_eq!(rt; told(apply(alloc, &mut profile, &edit, 1)), ("changed", 0));
-    assert_eq!(rt; told(apply(alloc, &mut profile, &edit, 1)), ("same rule", 0));
+    assert_eq!(rt;
+        told(apply(alloc, &mut profile, &edit, 1)),
+        ("same rule", 0)
+    );
     let edit = drop_rule(alloc, "a", "b")?;
     assert_eq!(rt; told(apply(alloc, &mut profile, &edit, 1)), ("changed", 0));
     assert_eq!(rt; told(apply(alloc, &mut profile, &edit, 1)), ("no rule", 0));
@@ -106,7 +109,10 @@ fn mods_are_enabled_and_disabled_within_the_limit(rt: HostRuntime) -> Result<(),
     assert_eq!(rt; told(apply(alloc, &mut profile, &edit, 1)), ("too many", 2));
     assert_eq!(rt; profile.mods().len(), 1);
     assert_eq!(rt; told(apply(alloc, &mut profile, &edit, 2)), ("changed", 0));
-    assert_eq!(rt; told(apply(alloc, &mut profile, &edit, 1)), ("unchanged", 0));
+    assert_eq!(rt;
+        told(apply(alloc, &mut profile, &edit, 1)),
+        ("unchanged", 0)
+    );
     let edit = disable(alloc, "z")?;
     assert_eq!(rt; told(apply(alloc, &mut profile, &edit, 1)), ("changed", 0));
     assert_eq!(rt; profile.mods().len(), 2);
@@ -121,9 +127,15 @@ fn overrides_are_set_and_dropped(rt: HostRuntime) -> Result<(), Fail> {
     assert_eq!(rt; told(apply(alloc, &mut profile, &edit, 1)), ("no mod", 5));
     let edit = set_override(alloc, "x.txt", "a")?;
     assert_eq!(rt; told(apply(alloc, &mut profile, &edit, 1)), ("changed", 0));
-    assert_eq!(rt; told(apply(alloc, &mut profile, &edit, 1)), ("unchanged", 0));
+    assert_eq!(rt;
+        told(apply(alloc, &mut profile, &edit, 1)),
+        ("unchanged", 0)
+    );
     let edit = drop_override(alloc, "x.txt")?;
     assert_eq!(rt; told(apply(alloc, &mut profile, &edit, 1)), ("changed", 0));
-    assert_eq!(rt; told(apply(alloc, &mut profile, &edit, 1)), ("no override", 5));
+    assert_eq!(rt;
+        told(apply(alloc, &mut profile, &edit, 1)),
+        ("no override", 5)
+    );
     Ok(())
 }

@@ -1,7 +1,6 @@
-use Rattle.std.proofs.Common.{◌≡◌, ◌≤◌, ◌+◌, ◌++◌, ◌∷◌, [], None, length, ap, sym, subst, ◌∙◌, nat_eq, true, arith}
+use Rattle.std.proofs.Common.{◌≡◌, ◌++◌, ◌∷◌, [], None, length, ap, sym, ◌∙◌, nat_eq, true, arith}
 use Rattle.std.specs.Cmp.Lexicographic.{pointwise}
 use Rattle.indexmap.proofs.CallerLemmas.{insert_entry-new}
-use Rattle.profile_toml.specs.Profiles.{plain_mod}
 use Rattle.profile_edit.specs.Parts.{value_at, with_enabled}
 use Rattle.profile_edit.proofs.Values.{with_value-None}
 use Rattle.profile_edit.proofs.Applied.{enabled, enabled_new, not_there}

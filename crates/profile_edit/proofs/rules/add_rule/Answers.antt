@@ -1,4 +1,4 @@
-use Rattle.std.proofs.Common.{◌≡◌, ◌++◌, ◌∷◌, [], is_some, position, ap, sym, ◌∙◌}
+use Rattle.std.proofs.Common.{◌++◌, ◌∷◌, [], is_some, position, ap, sym, ◌∙◌}
 use Rattle.toml.specs.Data.{no_members}
 use Rattle.profile_edit.specs.Parts.{with_value, is_rule}
 use Rattle.profile_edit.proofs.Applied.{rule_added}
