@@ -1,0 +1,4 @@
+pub mod Nodes
+pub mod Edges
+pub mod Checks
+pub mod Pairs

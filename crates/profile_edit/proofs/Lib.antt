@@ -1,0 +1,3 @@
+pub mod Values
+pub mod Keyed
+pub mod Applied

@@ -1,0 +1,31 @@
+// Why an edit is refused.
+use rel_paths::{ModId, RelPath};
+use std::alloc::AllocError;
+
+/// Why an edit is refused. The profile is then as before.
+#[derive(Debug, Drop)]
+pub enum EditError {
+    /// There would be this many mods, which are more than there may be.
+    TooMany(u64),
+    /// The profile has no mod with this id.
+    NoMod(ModId),
+    /// The mod has such a rule already.
+    SameRule,
+    /// The mod has no such rule.
+    NoRule,
+    /// The profile has no override of this path.
+    NoOverride(RelPath),
+    /// Memory ran out.
+    Memory,
+}
+
+impl From<AllocError> for EditError {
+    ghost use Rattle.std.specs.Prelude.{◌≡◌};
+    ghost use Rattle.profile_edit.specs.declared.error.EditError.TheVariants.{Memory};
+
+    ghost from_gives = { λ _ e. e ≡ Memory };
+
+    fn from(_e: AllocError) -> EditError {
+        EditError::Memory
+    }
+}
