@@ -1,5 +1,5 @@
 -- Each step that can be done leaves a valid disk.
-use Rattle.std.proofs.Common.{Bool, true, false}
+use Rattle.std.proofs.Common.{true, false}
 use Rattle.tree_fs.specs.declared.op.Op.{Op}
 use Rattle.tree_fs.specs.declared.op.Op.TheVariants.{Link, Unlink, Rename, Create, Fill, MakeFolder, RemoveFolder, SyncFolder, SyncFile}
 use Rattle.tree_fs.specs.Disk.{Disk, IsValid, after}

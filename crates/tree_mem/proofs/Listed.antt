@@ -1,13 +1,12 @@
 -- The entries of a folder, listed.
-use Rattle.std.proofs.Common.{◌≡◌, ◌≢◌, ℕ, suc, ◌<◌, Bool, true, false, ◌&&◌, cond, List, [], ◌∷◌, ◌++◌, map, length, refl, sym, ap, subst, ◌∙◌, arith}
+use Rattle.std.proofs.Common.{◌≡◌, ◌≢◌, ℕ, suc, cond, List, [], ◌∷◌, ◌++◌, map, refl, sym, ap, subst, ◌∙◌, arith}
 use Prim.Native.Nat.{zero}
 use Rattle.std.specs.List.{AllByRecursion, Contains, slice_get, list_all}
 use Rattle.std.specs.List.Sorted.{IsStrictlySortedBy}
-use Rattle.std.specs.BTreeMap.{BTreeMap, IsOrdered, get, get_by_text, is_at}
+use Rattle.std.specs.BTreeMap.{BTreeMap, IsOrdered, get_by_text, is_at}
 use Rattle.std.specs.Map.{keys_of}
 use Rattle.std.specs.Cmp.Lexicographic.{slice_cmp}
-use Rattle.std.specs.Ordering.{nat_cmp, is_eq}
-use Rattle.std.specs.Str.{bytes_eq}
+use Rattle.std.specs.Ordering.{nat_cmp}
 use Rattle.std.specs.String.{string_bytes, string_cmp, string_cmp_total}
 use Rattle.std.specs.declared.alloc.Global.{Global}
 use Rattle.std.specs.declared.cmp.Ordering.TheVariants.{Less}
@@ -22,7 +21,7 @@ use Rattle.tree_fs.specs.declared.name.Kind.{Kind}
 use Rattle.tree_fs.specs.declared.name.Kind.TheVariants as kind
 use Rattle.tree_fs.specs.EntryName.{IsName, is_entry_name}
 use Rattle.tree_fs.specs.Spot.{Spot, below}
-use Rattle.tree_fs.specs.Disk.{Disk, kind_of, kind_at}
+use Rattle.tree_fs.specs.Disk.{kind_of, kind_at}
 use Rattle.tree_fs.specs.Listing.{IsListing, IsEntry, entry_names}
 use Rattle.tree_mem.specs.declared.entries.Item.{Item}
 use Rattle.tree_mem.specs.declared.entries.Item.TheVariants.{Folder, File}

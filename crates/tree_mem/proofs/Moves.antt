@@ -1,12 +1,11 @@
 -- A file that moves: what was pending first, and what came then.
-use Rattle.std.proofs.Common.{◌≡◌, ◌≢◌, ℕ, ◌==◌, length, Bool, true, false, List, [], ◌∷◌, ◌++◌, refl, sym, ap, subst, ◌∙◌, inl, inr}
-use Rattle.std.specs.declared.option.Option.{Option}
-use Rattle.std.specs.declared.option.Option.TheVariants.{None, Some}
+use Rattle.std.proofs.Common.{◌≡◌, ◌≢◌, ℕ, ◌==◌, length, true, false, [], ◌∷◌, ◌++◌, refl, sym, ap, subst, ◌∙◌, inl, inr}
+use Rattle.std.specs.declared.option.Option.TheVariants.{None}
 use Rattle.std.proofs.lemmas.Bool.Decides.{Decides-eqb}
 use Rattle.tree_fs.specs.Spot.{Spot, spot_of}
 use Rattle.tree_fs.specs.Disk.{Disk, Value, none, file, set_at, put, renamed, is_one_file}
 use Rattle.tree_fs.proofs.Spots.{same_or_other}
-use Rattle.tree_fs.proofs.Functions.{set_at-same, set_at-other, SameDisk, same_disk}
+use Rattle.tree_fs.proofs.Functions.{set_at-same, set_at-other, same_disk}
 use Rattle.tree_fs.proofs.Ops.{renamed-apart}
 use Rattle.tree_mem.specs.declared.disk.MemDisk.{MemDisk}
 use Rattle.tree_mem.specs.declared.disk.Past.{Past}

@@ -1,5 +1,5 @@
 -- The names of a path's text, cut before the last one.
-use Rattle.std.proofs.Common.{◌≡◌, ◌≢◌, ℕ, ◌<◌, ◌≤◌, nat_eq, Bool, true, false, not, ◌&&◌, ◌==◌, nat_le, List, [], ◌∷◌, ◌++◌, All, refl, sym, ap, subst, ◌∙◌, arith, length, get_or, take, drop, lit<}
+use Rattle.std.proofs.Common.{◌≡◌, ◌≢◌, ℕ, nat_eq, Bool, true, false, not, ◌&&◌, ◌==◌, nat_le, List, [], ◌∷◌, ◌++◌, All, refl, sym, ap, subst, ◌∙◌, arith, length, get_or, take, drop, lit<}
 use Rattle.std.specs.List.{list_all}
 use Rattle.std.specs.Str.{bytes_eq, NoCharPasses}
 use Rattle.std.specs.Str.Pattern.{RFindsChar, SplitsAroundMatch}
@@ -10,9 +10,9 @@ use Rattle.std.proofs.lemmas.List.Elements.{All-from_get_or}
 use Rattle.std.proofs.lemmas.List.Folds.{list_all-append}
 use Rattle.std.proofs.lemmas.Str.Pattern.{NoCharPasses-char, drop_at_char}
 use Rattle.rel_paths.specs.Names.{names_of, is_good_byte, is_good_name, is_name_within, held_limits, IsHeldPath}
-use Rattle.rel_paths.proofs.NamesOf.{has_names, names_of-between, names_of-one}
-use Rattle.rel_paths.proofs.Limits.{IsWithin, IsWithin-from_fault}
-use Rattle.tree_fs.specs.EntryName.{is_entry_name, IsName}
+use Rattle.rel_paths.proofs.NamesOf.{names_of-between, names_of-one}
+use Rattle.rel_paths.proofs.Limits.{IsWithin-from_fault}
+use Rattle.tree_fs.specs.EntryName.{IsName}
 use Rattle.tree_mem.specs.Keys.{folder_names}
 
 not_slash : (b : ℕ) → b ≢ 47 → nat_eq b 47 ≡ false

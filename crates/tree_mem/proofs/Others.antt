@@ -1,6 +1,5 @@
 -- A change by others leaves a valid disk.
 use Rattle.std.proofs.Common.{true}
-use Rattle.tree_fs.specs.Calls.{CanPut}
 use Rattle.tree_fs.specs.Disk.{Disk, IsValid}
 use Rattle.tree_fs.specs.Spot.{spot_of}
 use Rattle.tree_fs.proofs.Folders.{valid-folder_removed}

@@ -1,5 +1,5 @@
 -- What a change of the parts is to the disk that they are.
-use Rattle.std.proofs.Common.{◌≡◌, ◌≢◌, ◌⊎◌, inl, inr, ℕ, ◌+◌, ◌<◌, ◌≤◌, ◌==◌, Bool, true, false, not, cond, List, [], ◌∷◌, ◌++◌, length, take, suc, ◌-◌, refl, sym, ap, subst, ◌∙◌, arith, get_or, IfOk, OnOk, OnErr, is_err}
+use Rattle.std.proofs.Common.{◌≡◌, ◌≢◌, inl, inr, ℕ, ◌+◌, ◌<◌, Bool, true, false, not, cond, List, [], ◌∷◌, ◌++◌, length, take, suc, ◌-◌, refl, sym, ap, ◌∙◌, arith, get_or, IfOk, OnOk, OnErr, is_err}
 use Rattle.std.specs.List.{fold, filter}
 use Rattle.std.specs.declared.option.Option.{Option}
 use Rattle.std.specs.declared.option.Option.TheVariants.{None, Some}
@@ -12,10 +12,10 @@ use Rattle.std.proofs.Math.ListN.{set}
 use Rattle.std.proofs.lemmas.List.{length-append, length-set, get_or-set_same, get_or-set_other}
 use Rattle.std.proofs.lemmas.Bool.{false_from_ne_true}
 use Rattle.tree_fs.specs.Spot.{Spot, spot_of, spot_eq, is_entry}
-use Rattle.tree_fs.specs.Disk.{Disk, Value, none, file, set_at, set_number, put, before_synced, synced, filled, made_firm, created}
+use Rattle.tree_fs.specs.Disk.{Value, none, file, set_at, set_number, put, before_synced, synced, filled, made_firm, created}
 use Rattle.tree_fs.proofs.Spots.{spot_eq-same, spot_eq-true}
 use Rattle.tree_fs.proofs.Disks.{before_synced_tells}
-use Rattle.tree_fs.proofs.Functions.{set_at_tells, set_number_tells, SameDisk, same_disk}
+use Rattle.tree_fs.proofs.Functions.{set_at_tells, set_number_tells, same_disk}
 use Rattle.tree_mem.specs.declared.entries.Item.{Item}
 use Rattle.tree_mem.specs.declared.entries.Item.TheVariants.{Folder, File}
 use Rattle.tree_mem.specs.declared.disk.MemDisk.{MemDisk}
@@ -23,7 +23,6 @@ use Rattle.tree_mem.specs.declared.disk.Past.{Past}
 use Rattle.tree_mem.specs.FileData.{FileData}
 use Rattle.tree_mem.specs.Items.{item_in}
 use Rattle.tree_mem.specs.Disks.{folders_of, item_of, is_folder, value_in, held_before, file_at, disk_in, ItemSet, SameParts}
-use Rattle.tree_fs.specs.Calls.{CanPut}
 use Rattle.tree_mem.specs.Changed.{with_file, with_link, with_folder, without_folder, without_file, settled_at, edited}
 
 -- the same parts are the same disk

@@ -1,7 +1,7 @@
 -- What lies at a path, after one folder's entries were written.
 use Rattle.std.proofs.Common.{◌≡◌, ◌≢◌, ◌⊎◌, inl, inr, ℕ, Bool, true, false, List, [], ◌∷◌, ◌++◌, refl, sym, ap, subst, ◌∙◌, OnOk, OnErr}
 use Rattle.std.specs.Bool.{Decides}
-use Rattle.std.specs.BTreeMap.{BTreeMap, UpdatesBy, Updates, get_by_text, is_at}
+use Rattle.std.specs.BTreeMap.{UpdatesBy, Updates, get_by_text, is_at}
 use Rattle.std.specs.Map.{lookup, KeepsOthers}
 use Rattle.std.specs.Cmp.Lexicographic.{slice_cmp, pointwise}
 use Rattle.std.specs.Ordering.{nat_cmp, is_eq}

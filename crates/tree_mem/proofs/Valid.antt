@@ -1,6 +1,5 @@
 -- What is added to a valid disk leaves it valid.
-use Rattle.std.proofs.Common.{◌≡◌, ◌≢◌, ◌⊎◌, inl, inr, ℕ, ◌+◌, ◌<◌, ◌≤◌, Bool, true, false, not, List, [], ◌∷◌, refl, sym, ap, subst, ◌∙◌, arith}
-use Rattle.tree_fs.specs.declared.place.Root.{Root}
+use Rattle.std.proofs.Common.{◌≡◌, ◌≢◌, ◌⊎◌, inl, inr, ℕ, ◌<◌, ◌≤◌, true, false, not, List, [], ◌∷◌, refl, sym, ap, subst, ◌∙◌, arith}
 use Rattle.tree_fs.specs.Spot.{Spot, has_some, root_spot, parent, front_names}
 use Rattle.tree_fs.specs.Disk.{Disk, Value, none, file, odd, IsIn, MayHold, IsFile, IsValid, set_at}
 use Rattle.tree_fs.proofs.Functions.{set_at_tells}

@@ -1,4 +1,4 @@
-use Rattle.std.specs.Prelude.{⊤, Bool, true, false}
+use Rattle.std.specs.Prelude.{⊤, true, false}
 use Rattle.tree_fs.specs.declared.op.Op.{Op}
 use Rattle.tree_fs.specs.declared.op.Op.TheVariants.{Link, Unlink, Rename, Create, Fill, MakeFolder, RemoveFolder, SyncFolder, SyncFile}
 use Rattle.tree_fs.specs.Calls.{IsFolder, CanLink, CanUnlink, CanRename, CanPut, CanMakeFolder, CanRemoveFolder}

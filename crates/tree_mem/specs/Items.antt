@@ -1,9 +1,8 @@
-use Rattle.std.specs.Prelude.{◌≡◌, ◌≢◌, ℕ, Bool, true, false, List, [], ◌∷◌}
+use Rattle.std.specs.Prelude.{◌≡◌, ◌≢◌, ℕ, List, [], ◌∷◌}
 use Rattle.std.specs.declared.option.Option.{Option}
 use Rattle.std.specs.declared.option.Option.TheVariants.{None, Some}
 use Rattle.std.specs.BTreeMap.{BTreeMap, get_by_text}
 use Rattle.std.specs.Map.{lookup}
-use Rattle.std.specs.List.{list_all}
 use Rattle.std.specs.Cmp.Lexicographic.{pointwise}
 use Rattle.std.specs.Str.{bytes_eq}
 use Rattle.std.specs.String.{string_bytes}
@@ -11,7 +10,7 @@ use Rattle.std.specs.declared.alloc.Global.{Global}
 use Rattle.std.specs.declared.string.String.{String}
 use Rattle.tree_fs.specs.Spot.{front_names}
 use Rattle.tree_mem.specs.declared.entries.Item.{Item}
-use Rattle.tree_mem.specs.declared.entries.Item.TheVariants.{Folder, File}
+use Rattle.tree_mem.specs.declared.entries.Item.TheVariants.{Folder}
 use Rattle.tree_mem.specs.declared.entries.Entries.{Entries}
 use Rattle.tree_mem.specs.Keys.{folder_names, last_name}
 

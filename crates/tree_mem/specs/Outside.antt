@@ -1,4 +1,3 @@
-use Rattle.std.specs.Prelude.{ℕ}
 use Rattle.tree_fs.specs.Calls.{CanLink, CanUnlink, CanPut, CanMakeFolder, CanRemoveFolder}
 use Rattle.tree_fs.specs.Disk.{Disk, IsFile}
 use Rattle.tree_fs.specs.Spot.{spot_of}

@@ -1,4 +1,4 @@
-use Rattle.std.specs.Prelude.{◌≡◌, ◌-◌, ◌+◌, ◌^◌, ℕ, Bool, min, ◌==◌, List}
+use Rattle.std.specs.Prelude.{◌-◌, ◌+◌, ◌^◌, ℕ, Bool, min, ◌==◌, List}
 use Rattle.std.specs.List.{find}
 use Rattle.std.specs.Option.{option_map}
 use Rattle.std.specs.declared.option.Option.{Option}

@@ -17,3 +17,6 @@ mod tree;
 pub use fail::FailAt;
 pub use step::OutsideStep;
 pub use tree::MemTree;
+
+#[cfg(test)]
+mod tests;

@@ -1,6 +1,5 @@
-use Rattle.std.proofs.Common.{◌≡◌, refl, sym, ap, ◌∙◌}
+use Rattle.std.proofs.Common.{sym, ap, ◌∙◌}
 use Rattle.std.specs.Option.{option_copied}
-use Rattle.tree_mem.specs.Items.{entry_in}
 use Rattle.tree_mem.proofs.Paths.{found}
 use Rattle.tree_mem.proofs.folders.item_at.Goals as goal
 

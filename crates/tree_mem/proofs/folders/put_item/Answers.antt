@@ -1,4 +1,4 @@
-use Rattle.std.proofs.Common.{◌≡◌, ◌++◌, ◌∷◌, [], refl, sym, ap, ◌∙◌, rules, Some}
+use Rattle.std.proofs.Common.{◌++◌, ◌∷◌, [], sym, ap, ◌∙◌, rules, Some}
 use Rattle.std.specs.Option.{option_copied_mut}
 use Rattle.tree_mem.specs.Keys.{folder_names}
 use Rattle.tree_mem.proofs.Paths.{put_some, put_back, put_first, update_at}

@@ -1,4 +1,4 @@
-use Rattle.std.proofs.Common.{◌≡◌, Some, None, Ok, sym, ap, ◌∙◌, rules}
+use Rattle.std.proofs.Common.{None, Ok, sym, ap, ◌∙◌, rules}
 use Rattle.std.specs.Option.{option_copied_mut}
 use Rattle.tree_mem.proofs.Paths.{put_some, set_nothing}
 use Rattle.tree_mem.proofs.folders.remove_item.Goals as goal

@@ -1,5 +1,4 @@
-use Rattle.std.proofs.Common.{◌∙◌, ap, sym, refl}
-use Rattle.rel_paths.specs.Names.{names_of}
+use Rattle.std.proofs.Common.{◌∙◌, ap, sym}
 use Rattle.tree_fs.specs.Spot.{names_below}
 use Rattle.tree_mem.specs.Keys.{folder_names}
 use Rattle.tree_mem.proofs.Names.{folder_names-held}

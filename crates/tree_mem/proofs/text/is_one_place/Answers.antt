@@ -1,4 +1,4 @@
-use Rattle.std.proofs.Common.{◌≡◌, ◌∙◌}
+use Rattle.std.proofs.Common.{◌∙◌}
 use Rattle.tree_mem.proofs.Entering.{one_place}
 use Rattle.tree_mem.proofs.text.is_one_place.Goals as goal
 

@@ -1,6 +1,5 @@
-use Rattle.std.proofs.Common.{◌≡◌, true, false, refl, sym, ap, ◌∙◌}
-use Rattle.tree_fs.specs.Spot.{Spot, spot_of, is_entry, names_below}
-use Rattle.tree_fs.specs.declared.place.Root.{Root}
+use Rattle.std.proofs.Common.{sym, ap, ◌∙◌}
+use Rattle.tree_fs.specs.Spot.{spot_of, is_entry, names_below}
 use Rattle.rel_paths.specs.Names.{names_of}
 use Rattle.tree_mem.proofs.Entering.{same_root, is_entry-cut, not_entry-root, not_entry-elsewhere, lies_there}
 use Rattle.tree_mem.proofs.text.lies_in.Goals as goal

@@ -1,4 +1,4 @@
-use Rattle.std.proofs.Common.{◌≡◌, ◌∷◌, [], true, ap, ◌∙◌}
+use Rattle.std.proofs.Common.{◌∷◌, [], true, ap, ◌∙◌}
 use Rattle.tree_fs.specs.declared.op.Op.TheVariants.{Create, Fill}
 use Rattle.tree_fs.specs.Story.{Story, with_ops}
 use Rattle.tree_mem.proofs.Told.{file_told}

@@ -1,4 +1,4 @@
-use Rattle.std.proofs.Common.{◌≡◌, sym, ap, ◌∙◌, ◌++◌, ◌∷◌, [], Some}
+use Rattle.std.proofs.Common.{sym, ap, ◌∙◌, ◌++◌, ◌∷◌, [], Some}
 use Rattle.tree_fs.specs.Spot.{spot_of}
 use Rattle.tree_mem.specs.declared.entries.Item.TheVariants.{File}
 use Rattle.tree_mem.proofs.Parts.{disk_file, disk_same, from_ok, from_err, pushed_popped}

@@ -1,4 +1,4 @@
-use Rattle.std.proofs.Common.{◌≡◌, ◌<◌, sym, ap, subst, ◌∙◌, inl}
+use Rattle.std.proofs.Common.{◌<◌, sym, ap, subst, ◌∙◌, inl}
 use Rattle.tree_fs.specs.Spot.{spot_of}
 use Rattle.tree_fs.proofs.Parts.{bytes_at-file}
 use Rattle.tree_mem.specs.Disks.{disk_in}

@@ -1,4 +1,4 @@
-use Rattle.std.proofs.Common.{◌≡◌, refl, sym, ◌∙◌}
+use Rattle.std.proofs.Common.{refl, sym, ◌∙◌}
 use Rattle.tree_fs.specs.Spot.{spot_of}
 use Rattle.tree_mem.specs.declared.disk.MemDisk.{MemDisk}
 use Rattle.tree_mem.proofs.Parts.{disk_created, disk_same, from_ok, from_err, pushed_popped}

@@ -1,8 +1,8 @@
-use Rattle.std.proofs.Common.{◌≡◌, refl, sym, ap, ◌∙◌}
+use Rattle.std.proofs.Common.{refl, sym, ap, ◌∙◌}
 use Rattle.tree_fs.specs.Spot.{spot_of}
 use Rattle.tree_mem.specs.declared.disk.MemDisk.{MemDisk}
 use Rattle.tree_mem.proofs.Moves.{disk_moved}
-use Rattle.tree_mem.proofs.Parts.{disk_same, from_ok, from_err, pushed_popped, file-no_folder, file-named}
+use Rattle.tree_mem.proofs.Parts.{disk_same, from_ok, from_err, pushed_popped, file-no_folder}
 use Rattle.tree_mem.proofs.disk.MemDisk.move_file.Goals as goal
 
 pub returns-then-is_err-clause-err : goal.returns-then-is_err-clause-err

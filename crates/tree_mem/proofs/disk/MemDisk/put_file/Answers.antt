@@ -1,4 +1,4 @@
-use Rattle.std.proofs.Common.{◌≡◌, Some, refl, sym, ap, ◌∙◌}
+use Rattle.std.proofs.Common.{Some, refl, sym, ap, ◌∙◌}
 use Rattle.tree_fs.specs.Spot.{spot_of}
 use Rattle.tree_mem.specs.declared.entries.Item.TheVariants.{File}
 use Rattle.tree_mem.proofs.Parts.{disk_put, from_ok, from_err, pushed_popped}

@@ -1,4 +1,3 @@
-use Rattle.std.proofs.Common.{◌≡◌, sym, ap, ◌∙◌}
 use Rattle.tree_fs.specs.Spot.{spot_of}
 use Rattle.tree_mem.proofs.Parts.{disk_no_folder, folder-now}
 use Rattle.tree_mem.proofs.disk.MemDisk.remove_folder.Goals as goal

@@ -1,4 +1,4 @@
-use Rattle.std.proofs.Common.{◌≡◌, refl, not, rules}
+use Rattle.std.proofs.Common.{refl, not, rules}
 use Rattle.std.proofs.lemmas.Fn.{filter_same}
 use Rattle.tree_fs.specs.Spot.{spot_of, spot_eq}
 use Rattle.tree_mem.specs.declared.disk.MemDisk.{MemDisk}

@@ -1,4 +1,4 @@
-use Rattle.std.proofs.Common.{◌≡◌, ◌<◌, length, true, refl, sym, ap, subst, ◌∙◌, inl}
+use Rattle.std.proofs.Common.{◌<◌, length, true, refl, sym, ap, subst, ◌∙◌, inl}
 use Rattle.std.specs.Vec.{with_item}
 use Rattle.std.proofs.Math.ListN.{set}
 use Rattle.tree_fs.specs.Disk.{made_firm}

@@ -1,4 +1,4 @@
-use Rattle.std.proofs.Common.{◌≡◌, None, refl, sym, ap, ◌∙◌}
+use Rattle.std.proofs.Common.{None, refl, ap, ◌∙◌}
 use Rattle.tree_fs.specs.Spot.{spot_of}
 use Rattle.tree_mem.proofs.Parts.{disk_put, file-no_folder}
 use Rattle.tree_mem.proofs.disk.MemDisk.unlink.Goals as goal

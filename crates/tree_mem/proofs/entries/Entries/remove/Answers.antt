@@ -1,4 +1,4 @@
-use Rattle.std.proofs.Common.{◌≡◌, sym, subst}
+use Rattle.std.proofs.Common.{sym, subst}
 use Rattle.tree_mem.specs.Keys.{AreNames}
 use Rattle.tree_mem.proofs.Maps.{AreNames-remove, Changes-from_update}
 use Rattle.tree_mem.proofs.entries.Entries.remove.Goals as goal

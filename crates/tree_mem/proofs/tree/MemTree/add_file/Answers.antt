@@ -1,5 +1,5 @@
-use Rattle.std.proofs.Common.{◌≡◌, sym, ap, subst, ◌∙◌}
-use Rattle.tree_fs.specs.Disk.{Disk, IsFile, IsValid, after_all}
+use Rattle.std.proofs.Common.{sym, ap, subst, ◌∙◌}
+use Rattle.tree_fs.specs.Disk.{Disk, IsValid, after_all}
 use Rattle.tree_mem.specs.Changed.{with_file, settled_at}
 use Rattle.tree_fs.specs.Spot.{spot_of}
 use Rattle.tree_mem.specs.Disks.{disk_in}

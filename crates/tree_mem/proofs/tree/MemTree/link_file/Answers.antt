@@ -1,4 +1,4 @@
-use Rattle.std.proofs.Common.{◌≡◌, sym, ap, subst, ◌∙◌}
+use Rattle.std.proofs.Common.{sym, ap, subst, ◌∙◌}
 use Rattle.tree_fs.specs.Disk.{Disk, IsFile, IsValid, after_all}
 use Rattle.tree_mem.specs.Changed.{with_link, settled_at}
 use Rattle.tree_fs.specs.Spot.{spot_of}

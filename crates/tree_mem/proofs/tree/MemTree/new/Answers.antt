@@ -1,4 +1,4 @@
-use Rattle.std.proofs.Common.{◌≡◌, sym, ap, subst}
+use Rattle.std.proofs.Common.{sym, ap, subst}
 use Rattle.tree_fs.specs.Disk.{IsValid, after_all}
 use Rattle.tree_mem.specs.Disks.{disk_in}
 use Rattle.tree_mem.proofs.Valid.{valid_empty}
