@@ -5,8 +5,9 @@ use rel_paths::{ModId, RelPath};
 use std::process::Abort;
 use std::test::Fail;
 
-const EXAMPLE: &str =
-    "version = 1\n\n[[mods]]\nid = \"Texture Pack\"\nenabled = true\n\n[[mods.rules]]\nkind = \"after\"\nref = \"Base Meshes\"\n\n[[overrides]]\npath = \"Data/textures/sky.dds\"\nmod = \"Base Meshes\"\n";
+fn example() -> &'static str {
+    "version = 1\n\n[[mods]]\nid = \"Texture Pack\"\nenabled = true\n\n[[mods.rules]]\nkind = \"after\"\nref = \"Base Meshes\"\n\n[[overrides]]\npath = \"Data/textures/sky.dds\"\nmod = \"Base Meshes\"\n"
+}
 
 // What a document is refused for, or `read`.
 fn answer(rt: &impl AllocGlobal, bytes: &[u8]) -> Result<String, Fail> {
@@ -62,7 +63,7 @@ fn check_override(
 
 #[test]
 fn the_example_is_the_profile_that_it_shows(rt: HostRuntime) -> Result<(), Fail> {
-    let profile = read_profile(rt.alloc(), EXAMPLE.as_bytes())?;
+    let profile = read_profile(rt.alloc(), example().as_bytes())?;
     check_mod(&rt, &profile, "Texture Pack", "Base Meshes")?;
     check_override(&rt, &profile, "Data/textures/sky.dds", "Base Meshes")
 }
@@ -77,7 +78,7 @@ fn prints_alike(rt: &(impl AllocGlobal + Abort), text: &str) -> Result<(), Fail>
 
 #[test]
 fn the_example_is_printed_and_read_back(rt: HostRuntime) -> Result<(), Fail> {
-    prints_alike(&rt, EXAMPLE)
+    prints_alike(&rt, example())
 }
 
 #[test]
