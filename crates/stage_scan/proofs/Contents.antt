@@ -1,12 +1,11 @@
 -- What lies below an entry of a mod.
-use Rattle.std.proofs.Common.{◌≡◌, ◌≢◌, ℕ, Bool, true, false, cond, List, [], ◌∷◌, ◌++◌, map, reverse, refl, sym, ap, ◌∙◌, inl, inr, subst, append_assoc}
-use Rattle.std.specs.List.{AllByRecursion, Contains}
+use Rattle.std.proofs.Common.{◌≡◌, ◌≢◌, ℕ, Bool, true, false, List, [], ◌∷◌, ◌++◌, reverse, refl, sym, ap, ◌∙◌, subst, append_assoc}
+use Rattle.std.specs.List.{AllByRecursion}
 use Rattle.std.proofs.lemmas.List.Sorted.{Contains-permutation, IsPermutation-reverse}
-use Rattle.tree_fs.specs.declared.name.Kind.{Kind}
 use Rattle.tree_fs.specs.declared.name.Kind.TheVariants as kind
 use Rattle.tree_fs.specs.declared.name.Entry.{Entry}
 use Rattle.tree_fs.specs.Spot.{Spot, parent, below}
-use Rattle.tree_fs.specs.Disk.{Disk, Value, none, file, odd, IsValid, kind_at, kind_of}
+use Rattle.tree_fs.specs.Disk.{Disk, Value, none, file, odd, IsValid, kind_of}
 use Rattle.tree_fs.specs.Listing.{IsListing, IsEntry}
 use Rattle.tree_fs.proofs.Spots.{parent-below}
 use Rattle.tree_fs.proofs.KindOf.{folder-kind}

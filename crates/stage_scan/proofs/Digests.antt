@@ -1,9 +1,7 @@
 -- A digest of bytes that came part by part.
-use Rattle.std.proofs.Common.{◌≡◌, ◌≢◌, ℕ, ◌+◌, ◌-◌, ◌<◌, ◌≤◌, List, [], ◌++◌, length, take, refl, sym, subst, ap, ◌∙◌, arith}
-use Rattle.std.proofs.lemmas.List.{take_all}
-use Rattle.sha2.specs.Sha256.{sha256}
+use Rattle.std.proofs.Common.{◌≡◌, ℕ, ◌+◌, ◌≤◌, List, ◌++◌, length, take, sym, subst, ap, ◌∙◌}
 use Rattle.tree_fs.specs.Parts.{IsPart}
-use Rattle.tree_fs.proofs.Parts.{part-more, part-within, part-end}
+use Rattle.tree_fs.proofs.Parts.{part-more}
 
 -- a part that is within its bound is taken whole
 pub one_part : (H : List ℕ → Type 0) (bytes : List ℕ) (from most : ℕ) (read part : List ℕ) → IsPart bytes from most read → (length read ≤ most → part ≡ read)

@@ -1,5 +1,5 @@
 -- What a walk comes to.
-use Rattle.std.proofs.Common.{◌≡◌, ◌≢◌, ◌⊎◌, ℕ, ◌<◌, ◌≤◌, ◌==◌, Bool, true, false, cond, nat_eq, List, [], ◌∷◌, ◌++◌, map, length, refl, sym, ap, ◌∙◌, inl, inr, subst, arith}
+use Rattle.std.proofs.Common.{◌≡◌, ◌⊎◌, ℕ, ◌<◌, ◌≤◌, ◌==◌, Bool, true, false, cond, nat_eq, List, [], ◌∷◌, ◌++◌, map, length, refl, sym, ap, ◌∙◌, inl, inr, subst, arith}
 use Rattle.std.specs.List.{AllByRecursion, Contains, IsDistinct, dedup, dedup_from}
 use Rattle.std.specs.List.Sorted.{IsStrictlySortedBy, IsSorted, IsPermutation}
 use Rattle.std.specs.Ordering.{nat_cmp}
@@ -19,7 +19,7 @@ use Rattle.tree_fs.proofs.Spots.{not_nameless}
 use Rattle.tree_fs.proofs.Lists.{all_item, contains_none}
 use Rattle.stage_scan.specs.declared.error.ScanError.{ScanError}
 use Rattle.stage_scan.specs.declared.error.ScanError.TheVariants as error
-use Rattle.stage_scan.specs.Walks.{inside, kind_inside, IsInside, IsWalk, IsEntryFault, IsFaultAfter, IsFirstFault, IsRefused, IsFreePath, AreFiles, CountsInside}
+use Rattle.stage_scan.specs.Walks.{kind_inside, IsInside, IsEntryFault, IsFaultAfter, IsFirstFault, IsRefused, IsFreePath, AreFiles, CountsInside}
 use Rattle.stage_scan.specs.declared.pending.Pending.{Pending}
 use Rattle.stage_scan.specs.Stack.{names_at, IsFound, IsWalkedTo, IsWalkAt}
 use Rattle.stage_scan.proofs.Visits.{at_last, next_kind}

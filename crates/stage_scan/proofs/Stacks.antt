@@ -1,5 +1,5 @@
 -- Lists and stacks of entries.
-use Rattle.std.proofs.Common.{◌≡◌, ◌≢◌, ◌⊎◌, ℕ, Bool, true, false, List, [], ◌∷◌, ◌++◌, map, reverse, refl, sym, ap, ◌∙◌, inl, inr, subst}
+use Rattle.std.proofs.Common.{◌≡◌, ℕ, Bool, false, List, [], ◌∷◌, ◌++◌, map, reverse, sym, ap, ◌∙◌, subst}
 use Rattle.std.specs.List.{AllByRecursion, Contains, IsDistinct}
 use Rattle.std.specs.List.Sorted.{IsStrictlySortedBy}
 use Rattle.std.specs.Ordering.{nat_cmp}
@@ -10,7 +10,7 @@ use Rattle.std.proofs.lemmas.Grind.{reverse_onto}
 use Rattle.std.proofs.lemmas.List.{map-append}
 use Rattle.tree_fs.specs.declared.name.Entry.{Entry}
 use Rattle.tree_fs.specs.Listing.{entry_names}
-use Rattle.tree_fs.proofs.Lists.{all_append, all_left, all_right, all_weaken, all_every, all_map, all_unmap, contains_here, contains_there}
+use Rattle.tree_fs.proofs.Lists.{all_append, all_left, all_right, all_weaken, all_map, all_unmap, contains_here, contains_there}
 use Rattle.stage_scan.specs.Stack.{IsApart, IsStacked}
 use Rattle.stage_scan.proofs.Orders.{apart_entries}
 

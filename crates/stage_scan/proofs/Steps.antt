@@ -1,7 +1,6 @@
 -- One step of a walk.
-use Rattle.std.proofs.Common.{◌≡◌, ◌≢◌, ◌⊎◌, ℕ, ◌+◌, Bool, true, false, List, [], ◌∷◌, ◌++◌, length, nat_eq, refl, sym, ap, ◌∙◌, inl, inr, subst, arith, append-nil}
+use Rattle.std.proofs.Common.{◌≡◌, ◌≢◌, ◌⊎◌, ℕ, ◌+◌, Bool, true, false, List, [], ◌∷◌, ◌++◌, nat_eq, refl, sym, ap, ◌∙◌, inl, inr, subst, append-nil}
 use Rattle.std.specs.List.{AllByRecursion, Contains, IsDistinct}
-use Rattle.std.specs.List.Sorted.{IsStrictlySortedBy}
 use Rattle.std.specs.Str.{bytes_eq}
 use Rattle.std.specs.Cmp.Lexicographic.{pointwise}
 use Rattle.std.proofs.lemmas.List.{length-append}
@@ -11,9 +10,9 @@ use Rattle.rel_paths.specs.Names.{names_of}
 use Rattle.rel_paths.proofs.NamesOf.{same_text}
 use Rattle.tree_fs.specs.declared.name.Kind.TheVariants as kind
 use Rattle.tree_fs.specs.Disk.{Disk}
-use Rattle.tree_fs.proofs.Lists.{all_append, all_left, all_right, all_both, all_weaken, all_more, all_item, contains_here, contains_cases, contains_none}
+use Rattle.tree_fs.proofs.Lists.{all_append, all_left, all_both, all_weaken, all_more, all_item, contains_here, contains_cases, contains_none}
 use Rattle.stage_scan.specs.Walks.{kind_inside, walk_cmp, IsInside, IsEarlier, IsSoundInside, IsWalkBefore}
-use Rattle.stage_scan.specs.Stack.{IsApart, IsStacked, IsUnderSome, IsFound, IsWalkedTo}
+use Rattle.stage_scan.specs.Stack.{IsApart, IsUnderSome, IsFound, IsWalkedTo}
 use Rattle.stage_scan.proofs.Orders.{walk_total, apart_earlier, apart_left, apart_right, content_later, not_both, not_itself, under_not_earlier}
 use Rattle.stage_scan.proofs.Stacks.{all_last, sorted_more, distinct_more, stacked_append, stacked_last}
 use Rattle.stage_scan.proofs.Contents.{IsNext, IsContent}

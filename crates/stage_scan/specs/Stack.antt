@@ -1,4 +1,4 @@
-use Rattle.std.specs.Prelude.{◌≡◌, ◌≢◌, ◌⊎◌, ℕ, List, [], ◌∷◌, ◌++◌, length, map, reverse, nat_eq, IfSome}
+use Rattle.std.specs.Prelude.{◌≡◌, ◌⊎◌, ℕ, List, [], ◌∷◌, ◌++◌, length, map, reverse, nat_eq, IfSome}
 use Rattle.std.specs.List.{AllByRecursion, Contains, IsDistinct}
 use Rattle.std.specs.List.Sorted.{IsStrictlySortedBy}
 use Rattle.std.specs.Ordering.{nat_cmp}
@@ -7,14 +7,12 @@ use Rattle.std.specs.declared.option.Option.{Option}
 use Rattle.std.specs.declared.option.Option.TheVariants.{None, Some}
 use Rattle.std.specs.declared.cmp.Ordering.TheVariants.{Less}
 use Rattle.rel_paths.specs.Names.{names_of, IsUserPath}
-use Rattle.tree_fs.specs.declared.name.Kind.{Kind}
 use Rattle.tree_fs.specs.declared.name.Kind.TheVariants as kind
 use Rattle.tree_fs.specs.declared.name.Entry.{Entry}
 use Rattle.tree_fs.specs.Spot.{names_below}
-use Rattle.tree_fs.specs.Listing.{IsListing}
 use Rattle.tree_fs.specs.Disk.{Disk}
 use Rattle.stage_scan.specs.declared.pending.Pending.{Pending}
-use Rattle.stage_scan.specs.Walks.{inside, kind_inside, walk_cmp, IsInside, IsEarlier, IsSoundInside}
+use Rattle.stage_scan.specs.Walks.{kind_inside, walk_cmp, IsInside, IsEarlier, IsSoundInside}
 
 -- the text of a path with one name more
 abbrev pub text_below : Option (List ℕ) → List ℕ → List ℕ

@@ -19,7 +19,11 @@ fn piece_of(left: u64) -> u32
     ensures within { result ≤ left }
     ensures some { 0 < left → 0 < result }
 {
-    if left < PIECE as u64 { left as u32 } else { PIECE }
+    if left < PIECE as u64 {
+        left as u32
+    } else {
+        PIECE
+    }
 }
 
 // The first bytes of a part, at most so many.

@@ -1,4 +1,4 @@
-use Rattle.std.proofs.Common.{◌≡◌, ◌∙◌, ◌++◌, ◌<◌, ◌≤◌, ◌-◌, length, take, sym, subst, arith}
+use Rattle.std.proofs.Common.{◌∙◌, ◌<◌, ◌≤◌, ◌-◌, length, take, sym, subst, arith}
 use Rattle.sha2.specs.Hashers.{Holds256}
 use Rattle.tree_fs.specs.Spot.{spot_of}
 use Rattle.tree_fs.specs.Parts.{bytes_at, IsPart}

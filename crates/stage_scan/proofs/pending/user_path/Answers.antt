@@ -1,7 +1,6 @@
-use Rattle.std.proofs.Common.{rules, ◌≡◌, ◌≢◌, ◌++◌, ◌∷◌, [], refl, ap, ◌∙◌}
+use Rattle.std.proofs.Common.{rules, ◌≢◌, refl, ap, ◌∙◌}
 use Rattle.rel_paths.specs.declared.error.PathError.TheVariants.{Memory}
 use Rattle.rel_paths.specs.Names.{names_of}
-use Rattle.tree_fs.specs.Spot.{names_below}
 use Rattle.stage_scan.proofs.Names.{names_of-text, user_names, no_user}
 use Rattle.stage_scan.proofs.pending.user_path.Goals as goal
 

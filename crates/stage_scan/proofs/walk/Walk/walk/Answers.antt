@@ -1,8 +1,8 @@
-use Rattle.std.proofs.Common.{◌≡◌, ◌<◌, ◌≤◌, ◌++◌, ◌∷◌, [], length, subst, arith}
+use Rattle.std.proofs.Common.{◌≡◌, [], length, subst, rules}
 use Rattle.tree_fs.specs.Story.{disk_of}
 use Rattle.stage_scan.specs.Walks.{IsRefused}
 use Rattle.stage_scan.specs.Stack.{IsWalkAt}
-use Rattle.stage_scan.proofs.Results.{err_tells, is_zero, not_zero, same_count, nothing_left, too_many, entry_refused}
+use Rattle.stage_scan.proofs.Results.{err_tells, same_count, nothing_left, too_many, entry_refused}
 use Rattle.stage_scan.proofs.walk.Walk.walk.Goals as goal
 
 pub returns-in_err-visit-clause-err : goal.returns-in_err-visit-clause-err
@@ -15,7 +15,8 @@ returns-in_err-visit-clause-err g c = λ told.
 pub returns-then-is_empty-clause-ok : goal.returns-then-is_empty-clause-ok
 returns-then-is_empty-clause-ok g c = λ told.
     let d = disk_of (g.T.Tree.story c.args.tree.now) in
-    let none = nothing_left c.loop-count.self.stack.items (is_zero _ _ c.is_empty.ensures c.if-is_empty.true) in
+    let zero : length c.loop-count.self.stack.items ≡ 0 = search rules in
+    let none = nothing_left c.loop-count.self.stack.items zero in
     let all = same_count c.loop-count.count c.args.most c.loop-count.invariant.within c.loop-count-test.false in
     subst (λ n. IsWalkAt d c.args.id.now [] n c.loop-count.self.files.items) all
     (subst (λ s. IsWalkAt d c.args.id.now s c.loop-count.count c.loop-count.self.files.items) none (c.loop-count.invariant.told told))
@@ -23,4 +24,4 @@ returns-then-is_empty-clause-ok g c = λ told.
 pub returns-else-is_empty-clause-err : goal.returns-else-is_empty-clause-err
 returns-else-is_empty-clause-err g c = λ told.
     too_many (disk_of (g.T.Tree.story c.args.tree.now)) c.args.id.now c.loop-count.count c.args.most c.loop-count.self.files.items (g.met.T.Tree.valid c.args.tree.now told) (c.requires.folder told) c.loop-count.self.stack.items (c.loop-count.invariant.told told)
-    (not_zero _ _ c.is_empty.ensures c.if-is_empty.false) (same_count c.loop-count.count c.args.most c.loop-count.invariant.within c.loop-count-test.false)
+    (λ z. search rules) (same_count c.loop-count.count c.args.most c.loop-count.invariant.within c.loop-count-test.false)
