@@ -1,0 +1,15 @@
+//! Looks at what a mod has: its files, and the digest of a file.
+//!
+//! `scan_mod` walks a mod's folder. It takes a folder's entries in byte order of their names, and
+//! a folder's content at its place. `digest_of` reads a file piece by piece.
+#![tactic(auto)]
+
+mod digest;
+mod error;
+mod pending;
+mod scan;
+mod walk;
+
+pub use digest::digest_of;
+pub use error::ScanError;
+pub use scan::{Scan, scan_mod};
