@@ -8,6 +8,7 @@ ghost use Rattle.std.specs.Result.{result_err};
 ghost use Rattle.fault_count.specs.Rose.{Rose};
 ghost use Rattle.io_edge.specs.Cause.{HasCause};
 ghost use Rattle.io_edge.specs.Lines.{is_lf, has_lf, line_bytes, through_line, after_line, without_end};
+ghost use Rattle.io_edge.specs.Pulls.{PullsForALine};
 ghost use Rattle.io_edge.specs.Reader.{next_of, texts_of, line_error, IsUnlessBroken, HasLineCause};
 ghost use Rattle.io_edge.specs.declared.lines.LineError.TheVariants.{Memory};
 
@@ -122,15 +123,15 @@ impl Gathered {
         self.line.clear();
     }
 
-    // Pulls a piece where no bytes are held, and answers whether there is a byte. It may be called
-    // only while the line has no LF.
+    // Pulls a piece where no bytes are held, and answers whether there is a byte.
     fn fill<S: Source>(&mut self, source: &mut S) -> Result<bool, IoError>
-        requires { has_lf self.old.line ≡ false }
         ensures more { IfOk result (λ more. (more ≡ false) ↔ (self.new.held ≡ [])) }
         ensures ahead { S.tells → OnOk result (self.new.held ++ S.left source.new ≡ self.old.held ++ S.left source.old) }
         ensures end { S.tells → IfOk result (λ more. more ≡ false → S.left source.new ≡ []) }
         ensures line { self.new.line ≡ self.old.line }
         ensures quiet { self.old.held ≢ [] → (source.new ≡ source.old) × (self.new ≡ self.old) × (result ≡ Ok true) }
+        ensures pull { self.old.held ≡ [] → OnOk result (S.gives source.old self.new.held source.new) }
+        ensures failed_pull { OnErr result ((self.old.held ≡ []) × S.gives source.old [] source.new) }
         ensures small { length self.new.held ≤ 65536 }
         ensures cause { HasCause (S.faults source.old) (S.faults source.new) result }
     {
@@ -175,6 +176,7 @@ impl Gathered {
         ensures err { S.tells → IfErr result (λ e. e ≢ LineError.Failed → e ≢ LineError.Memory
             → (e ≡ LineError.TooLong number) × (MOST_LINE_BYTES < length (line_bytes (self.old.held ++ S.left source.old)))) }
         ensures quiet { has_lf self.old.held ≡ true → source.new ≡ source.old }
+        ensures pulls { PullsForALine S.gives self.old.held source.old source.new }
         ensures small { length self.new.held ≤ 65536 }
         ensures cause { HasLineCause (S.faults source.old) (S.faults source.new) result }
     {
@@ -251,7 +253,8 @@ fn without_cr(text: &[u8]) -> &[u8]
 ///
 /// A line ends at an LF or at the end of input. A CR before the LF is no part of its text; a CR at
 /// the end of input is. Lines are counted from 1, empty ones too. At most one line and one piece
-/// of 65,536 bytes are held, and the source is asked only where no whole line is held.
+/// of 65,536 bytes are held, and the source is asked only where the bytes at hand, those that the
+/// same call pulled among them, have no LF.
 ///
 /// A contract sees the bytes held, how many lines were given, and the error that was answered.
 #[derive(Drop)]
@@ -301,6 +304,7 @@ impl LineReader {
         ensures again { IfSome self.old.stuck (λ e. result ≡ Err e) }
         ensures alone { IfSome self.old.stuck (λ _. source.new ≡ source.old) }
         ensures quiet { has_lf self.old.held ≡ true → source.new ≡ source.old }
+        ensures pulls { PullsForALine S.gives self.old.held source.old source.new }
         ensures small { length self.new.held ≤ 65536 }
         ensures later { S.faults source.old ≤ S.faults source.new }
         ensures failed { self.old.stuck ≡ None → IsErrOf result LineError.Failed → Rose (S.faults source.old) (S.faults source.new) }
@@ -326,6 +330,7 @@ impl LineReader {
         ensures given { IfOk result (λ line. self.new.given ≡ (if is_some line then self.old.given + 1 else self.old.given)) }
         ensures stuck { self.new.stuck ≡ self.old.stuck }
         ensures quiet { has_lf self.old.held ≡ true → source.new ≡ source.old }
+        ensures pulls { PullsForALine S.gives self.old.held source.old source.new }
         ensures cause { HasLineCause (S.faults source.old) (S.faults source.new) result }
     {
         self.gathered.clear_line();

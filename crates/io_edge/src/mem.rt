@@ -1,7 +1,7 @@
 // A source and a sink in memory, which fail where they are told to.
 ghost use Rattle.std.specs.Prelude.{◌≡◌, ◌<◌, ◌≤◌, ◌↔◌, ◌++◌, [], length, vec_len, take, drop, min, Contains, IfOk, OnOk, OnErr, IsErrOf};
 ghost use Rattle.io_edge.specs.Cause.{HasCause};
-ghost use Rattle.io_edge.specs.Mem.{SourceState, SinkState, next_count};
+ghost use Rattle.io_edge.specs.Mem.{SourceState, SinkState, OnePull, next_count};
 
 use crate::error::count_fault;
 use crate::{IoError, Sink, Source};
@@ -58,6 +58,10 @@ impl Source for MemSource {
 
     ghost faults = { λ s. s.faults };
 
+    ghost gives = { OnePull };
+
+    ghost gives_left = { λ _ _ _ _ pull. pull.taken };
+
     fn pull(&mut self, most: u32) -> Result<Vec<u8>, IoError>
         requires { 0 < most }
         ensures fails_exactly { IsErrOf result IoError.Failed ↔ Contains self.old.fails self.old.calls }
@@ -69,6 +73,8 @@ impl Source for MemSource {
         ensures taken { IfOk result (λ piece. self.old.left ≡ piece.items ++ self.new.left) }
         ensures end { IfOk result (λ piece. (piece.items ≡ []) ↔ (self.old.left ≡ [])) }
         ensures err { OnErr result (self.new.left ≡ self.old.left) }
+        ensures gave { IfOk result (λ piece. OnePull self.old piece.items self.new) }
+        ensures gave_none { OnErr result (OnePull self.old [] self.new) }
         ensures cause { HasCause self.old.faults self.new.faults result }
     {
         let call = self.calls;

@@ -1,6 +1,7 @@
 // Where bytes come from.
 ghost use Rattle.std.specs.Prelude.{◌≡◌, ◌<◌, ◌≤◌, ◌↔◌, ◌++◌, ℕ, List, [], vec_len, IfOk, OnErr};
 ghost use Rattle.io_edge.specs.Cause.{HasCause};
+ghost use Rattle.io_edge.specs.Pulls.{GivesOff};
 
 use crate::IoError;
 
@@ -17,6 +18,13 @@ pub trait Source {
     /// How often the source has failed, which stands still at `u64::MAX`.
     ghost faults: { Self → ℕ };
 
+    /// One pull in the first state may give these bytes and leave the second state. A pull that
+    /// fails, or finds none left, gives none.
+    ghost gives: { Self → List ℕ → Self → Type 0 };
+
+    /// What a pull gives comes off the bytes left.
+    ghost gives_left: { tells → GivesOff gives left };
+
     /// The next bytes, at least one and at most `most`, or none exactly where none are left.
     ///
     /// After an error the bytes left are as before. `Failed` comes only where the count of faults
@@ -27,5 +35,7 @@ pub trait Source {
         ensures taken { tells → IfOk result (λ piece. left self.old ≡ piece.items ++ left self.new) }
         ensures end { tells → IfOk result (λ piece. (piece.items ≡ []) ↔ (left self.old ≡ [])) }
         ensures err { tells → OnErr result (left self.new ≡ left self.old) }
+        ensures gave { IfOk result (λ piece. gives self.old piece.items self.new) }
+        ensures gave_none { OnErr result (gives self.old [] self.new) }
         ensures cause { HasCause (faults self.old) (faults self.new) result };
 }

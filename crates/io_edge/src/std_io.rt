@@ -35,6 +35,10 @@ impl<R: Input + AllocGlobal> Source for StdSource<R> {
 
     ghost faults = { λ s. s.faults };
 
+    ghost gives = { λ _ _ _. Unit {0} };
+
+    ghost gives_left = { λ told. absurd told };
+
     fn pull(&mut self, most: u32) -> Result<Vec<u8>, IoError> {
         let mut piece = vec![in self.rt.alloc(); 0; most.min(PIECE) as usize]?;
         match self.rt.reader().read(&mut piece) {

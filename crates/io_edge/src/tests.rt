@@ -10,6 +10,8 @@ use std::alloc::{AllocError, Allocator, Global};
 use std::fmt::Display;
 use std::io;
 use std::io::{BufRead, Lines};
+use std::process::Abort;
+use std::time::{CpuClock, Duration};
 
 fn source_of(alloc: Global, text: &[u8], piece: u32, fails: &[u64]) -> Result<MemSource, AllocError>
     requires { 0 < piece }
@@ -169,19 +171,58 @@ fn refuses_line_10001_before_its_length_and_its_bytes(rt: HostRuntime) {
     }
 }
 
+// So many lines, each of so many bytes before its LF.
+fn equal_lines(alloc: Global, lines: u32, bytes: usize) -> Result<Vec<u8>, AllocError> {
+    let line = repeated(alloc, b'x', bytes, b"\n")?;
+    let mut text = Vec::new(alloc);
+    for _ in 0..lines {
+        text.extend_from_slice(&line)?;
+    }
+    Ok(text)
+}
+
+// The least processor time, of three tries, in which so many equal lines were read.
+fn least_time<R: AllocGlobal + CpuClock + Abort>(
+    rt: &R,
+    lines: u32,
+    bytes: usize,
+    piece: u32,
+) -> Duration
+    requires { 0 < piece }
+{
+    let mut least = Duration::MAX;
+    for _ in 0..3u8 {
+        let text = equal_lines(rt.alloc(), lines, bytes).expect(rt, "memory");
+        let start = rt.thread_cpu_time().expect(rt, "a clock");
+        let (last, end) = count_lines(rt.alloc(), text, piece).expect(rt, "memory");
+        let now = rt.thread_cpu_time().expect(rt, "a clock");
+        least = least.min(now.saturating_sub(start));
+        assert_eq!(rt; last, lines);
+        assert!(rt; end.is_none());
+    }
+    least
+}
+
+// Four times the bytes take four times as long where time is linear in them, and sixteen times
+// where it is quadratic.
 #[test]
-fn reads_a_million_bytes_in_pieces_of_any_size(rt: HostRuntime) {
-    let alloc = rt.alloc();
-    for piece in [1u32, 99, 65_536] {
-        let mut text = repeated(alloc, b'x', 1_000_000, b"").expect(&rt, "memory");
-        for line in text.chunks_mut(100) {
-            if let [.., last] = line {
-                *last = b'\n';
-            }
-        }
-        let (last, end) = count_lines(alloc, text, piece).expect(&rt, "memory");
-        assert_eq!(&rt; last, 10_000);
-        assert!(&rt; end.is_none());
+fn reads_four_times_the_bytes_in_less_than_nine_times_the_time(rt: HostRuntime) {
+    // How many lines, fewer and more; the bytes of each before its LF, fewer and more; the most
+    // bytes of a piece.
+    let table: [(u32, u32, usize, usize, u32); 5] = [
+        (500, 2_000, 99, 99, 1),
+        (2_500, 10_000, 99, 99, 99),
+        (2_500, 10_000, 99, 99, 65_536),
+        (2_500, 10_000, 5, 5, 65_536),
+        (25, 25, 1_000, 4_000, 1),
+    ];
+    for (few, many, short, long, piece) in table {
+        let less = least_time(&rt, few, short, piece);
+        let more = least_time(&rt, many, long, piece);
+        assert!(&rt;
+            more.as_nanos() / 9 < less.as_nanos(),
+            "{more:?} after {less:?}, in pieces of {piece}"
+        );
     }
 }
 

@@ -1,8 +1,10 @@
-use Rattle.std.proofs.Common.{◌∙◌, ◌++◌, sym, ap, arith, ◌≡◌, true, false}
+use Rattle.std.proofs.Common.{◌∙◌, ◌++◌, [], List, ℕ, refl, sym, ap, arith, ◌≡◌, true, false}
 use Rattle.std.proofs.lemmas.Result.{err_from_is_err_and}
 use Rattle.io_edge.specs.Lines.{has_lf, through_line}
+use Rattle.io_edge.proofs.FirstLine.{after-none}
 use Rattle.io_edge.proofs.Gathering.{line_with_lf, rest_after_lf, length_with_lf, length_at_least, still_no_lf, ahead_of_more, line_at_end, through_at_end, after_at_end, length_at_end}
 use Rattle.io_edge.proofs.NextOf.{short_text}
+use Rattle.io_edge.proofs.Pulling.{nothing_yet, one_pull}
 use Rattle.io_edge.proofs.lines.Gathered.gather.Given.{Over}
 use Rattle.io_edge.proofs.lines.Gathered.gather.Goals as goal
 
@@ -27,9 +29,23 @@ pub returns-then-branch-clause-text : goal.returns-then-branch-clause-text
 returns-then-branch-clause-text g c =
     short_text 4096 c.loop-self.self.line c.loop-self.self.held _ c.loop-self.invariant.no_lf c.in_ok-move_line.ensures.line c.in_ok-move_line.ensures.short
 
-pub fill-requires : goal.fill-requires
-fill-requires g c =
-    still_no_lf c.loop-self.self.line c.loop-self.self.held _ c.loop-self.invariant.no_lf (sym c.in_ok-move_line.ensures.ended ∙ c.if-branch.false) c.in_ok-move_line.ensures.line
+pub loop-self-init : goal.loop-self-init
+loop-self-init g c =
+    let line : c.args.self.now.line ≡ [] = c.requires.no_line in
+    record {
+      no_lf = ap has_lf line;
+      pulled = nothing_yet g.S.Source.gives _ c.args.self.now.held c.args.source.now line;
+      some = c.requires.some;
+      ahead = λ _. ap (λ x. x ++ (c.args.self.now.held ++ g.S.Source.left c.args.source.now)) (sym line);
+      quiet = λ _. (refl, refl);
+      later = omega arith;
+    }
+
+pub returns-in_err-fill-clause-pulls : goal.returns-in_err-fill-clause-pulls
+returns-in_err-fill-clause-pulls g c = record {
+  at_hand = c.fill.new.self.line ++ [];
+  pulled = one_pull g.S.Source.gives _ _ c.loop-self.self.line c.loop-self.self.held _ _ c.fill.new.self.line [] c.loop-self.invariant.pulled c.loop-self.invariant.no_lf (sym c.in_ok-move_line.ensures.ended ∙ c.if-branch.false) (c.fill.ensures.line ∙ c.in_ok-move_line.ensures.line) c.in_err-fill.ensures.failed_pull.1;
+}
 
 -- what stands where the input has ended
 
@@ -62,11 +78,18 @@ pub returns-then-not-branch-clause-text : goal.returns-then-not-branch-clause-te
 returns-then-not-branch-clause-text g c =
     short_text 4096 c.loop-self.self.line c.loop-self.self.held _ c.loop-self.invariant.no_lf (moved g c) c.in_ok-move_line.ensures.short
 
+pub returns-then-not-branch-clause-pulls : goal.returns-then-not-branch-clause-pulls
+returns-then-not-branch-clause-pulls g c = record {
+  at_hand = c.fill.new.self.line ++ c.fill.new.self.held;
+  pulled = one_pull g.S.Source.gives _ _ c.loop-self.self.line c.loop-self.self.held _ _ c.fill.new.self.line c.fill.new.self.held c.loop-self.invariant.pulled c.loop-self.invariant.no_lf (no_lf_held g c) (moved g c) (c.in_ok-fill.ensures.pull (c.in_ok-move_line.ensures.held ∙ after-none c.loop-self.self.held (no_lf_held g c)));
+}
+
 pub loop-self-preserved : goal.loop-self-preserved
 loop-self-preserved g c =
     let none : has_lf c.loop-self.self.held ≡ false = sym c.in_ok-move_line.ensures.ended ∙ c.if-branch.false in
     let line : c.fill.new.self.line ≡ c.loop-self.self.line ++ through_line c.loop-self.self.held = c.fill.ensures.line ∙ c.in_ok-move_line.ensures.line in
     record {
+      pulled = one_pull g.S.Source.gives _ _ c.loop-self.self.line c.loop-self.self.held _ _ c.fill.new.self.line c.fill.new.self.held c.loop-self.invariant.pulled c.loop-self.invariant.no_lf none line (c.in_ok-fill.ensures.pull (c.in_ok-move_line.ensures.held ∙ after-none c.loop-self.self.held none));
       no_lf = still_no_lf c.loop-self.self.line c.loop-self.self.held _ c.loop-self.invariant.no_lf none line;
       some = λ empty. (let off : c.in_ok-fill.field-0 ≡ false = c.in_ok-fill.ensures.more.1 empty in let on : c.in_ok-fill.field-0 ≡ true = c.if-not-branch.false in cc);
       ahead = λ told. ahead_of_more _ c.loop-self.self.line c.loop-self.self.held _ _ _ c.fill.new.self.held (g.S.Source.left c.fill.new.source) (c.loop-self.invariant.ahead told) none line c.in_ok-move_line.ensures.held (c.in_ok-fill.ensures.ahead told);

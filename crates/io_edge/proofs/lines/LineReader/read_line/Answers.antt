@@ -1,10 +1,11 @@
-use Rattle.std.proofs.Common.{◌++◌, ap, ◌∙◌}
+use Rattle.std.proofs.Common.{◌≡◌, ◌++◌, ap, ◌∙◌}
 use Rattle.std.proofs.lemmas.Result.{err_from_is_err_and}
 use Rattle.io_edge.specs.Gathered.{LineAndHeld}
 use Rattle.io_edge.specs.Reader.{ReaderState}
 use Rattle.io_edge.specs.Lines.{after_line}
 use Rattle.io_edge.proofs.AllLines.{lines-of_answer}
 use Rattle.io_edge.proofs.NextOf.{here_is, some_here, answer_too_many, answer_not_text, answer_line}
+use Rattle.io_edge.proofs.Pulling.{then_for_a_line, first_pull, failed_pull}
 use Rattle.io_edge.proofs.lines.LineReader.read_line.Goals as goal
 
 pub returns-then-self-ge-MOST_LINES-clause-answer :
@@ -35,3 +36,31 @@ returns-clause-lines g c = λ told.
     let held = ap (λ (a : LineAndHeld). a.held) c.clear_line.ensures.cleared ∙ ap (λ (s : ReaderState). s.held) c.self.view_is in
     let same = here_is _ _ c.fill.new.self.held (g.S.Source.left c.args.source.now) (g.S.Source.left c.fill.new.source) held (c.in_ok-fill.ensures.ahead told) in
     lines-of_answer c.args.self.now.given _ (c.gather.new.self.held ++ g.S.Source.left c.gather.new.source) _ (returns-clause-answer g c told) (c.in_ok-gather.ensures.rest told ∙ ap after_line same)
+
+pub returns-in_err-fill-clause-pulls : goal.returns-in_err-fill-clause-pulls
+returns-in_err-fill-clause-pulls g c =
+    failed_pull g.S.Source.gives _ c.clear_line.new.self.held c.args.source.now c.fill.new.source (ap (λ (a : LineAndHeld). a.held) c.clear_line.ensures.cleared ∙ ap (λ (s : ReaderState). s.held) c.self.view_is) c.in_err-fill.ensures.failed_pull.0 c.in_err-fill.ensures.failed_pull.1
+
+pub returns-then-not-branch-clause-pulls : goal.returns-then-not-branch-clause-pulls
+returns-then-not-branch-clause-pulls g c = record {
+  at_hand = c.fill.new.self.held;
+  pulled = first_pull g.S.Source.gives _ c.clear_line.new.self.held c.fill.new.self.held c.args.source.now c.fill.new.source (ap (λ (a : LineAndHeld). a.held) c.clear_line.ensures.cleared ∙ ap (λ (s : ReaderState). s.held) c.self.view_is) c.in_ok-fill.ensures.pull (λ some. (let is = c.in_ok-fill.ensures.quiet some in (is.0, ap (λ (a : LineAndHeld). a.held) is.1)));
+}
+
+pub returns-then-self-ge-MOST_LINES-clause-pulls : goal.returns-then-self-ge-MOST_LINES-clause-pulls
+returns-then-self-ge-MOST_LINES-clause-pulls g c = record {
+  at_hand = c.fill.new.self.held;
+  pulled = first_pull g.S.Source.gives _ c.clear_line.new.self.held c.fill.new.self.held c.args.source.now c.fill.new.source (ap (λ (a : LineAndHeld). a.held) c.clear_line.ensures.cleared ∙ ap (λ (s : ReaderState). s.held) c.self.view_is) c.in_ok-fill.ensures.pull (λ some. (let is = c.in_ok-fill.ensures.quiet some in (is.0, ap (λ (a : LineAndHeld). a.held) is.1)));
+}
+
+pub returns-in_err-gather-clause-pulls : goal.returns-in_err-gather-clause-pulls
+returns-in_err-gather-clause-pulls g c =
+    then_for_a_line g.S.Source.gives _ c.fill.new.self.held c.args.source.now c.fill.new.source c.gather.new.source (first_pull g.S.Source.gives _ c.clear_line.new.self.held c.fill.new.self.held c.args.source.now c.fill.new.source (ap (λ (a : LineAndHeld). a.held) c.clear_line.ensures.cleared ∙ ap (λ (s : ReaderState). s.held) c.self.view_is) c.in_ok-fill.ensures.pull (λ some. (let is = c.in_ok-fill.ensures.quiet some in (is.0, ap (λ (a : LineAndHeld). a.held) is.1)))) c.gather.ensures.pulls
+
+pub returns-in_err-text-clause-pulls : goal.returns-in_err-text-clause-pulls
+returns-in_err-text-clause-pulls g c =
+    then_for_a_line g.S.Source.gives _ c.fill.new.self.held c.args.source.now c.fill.new.source c.gather.new.source (first_pull g.S.Source.gives _ c.clear_line.new.self.held c.fill.new.self.held c.args.source.now c.fill.new.source (ap (λ (a : LineAndHeld). a.held) c.clear_line.ensures.cleared ∙ ap (λ (s : ReaderState). s.held) c.self.view_is) c.in_ok-fill.ensures.pull (λ some. (let is = c.in_ok-fill.ensures.quiet some in (is.0, ap (λ (a : LineAndHeld). a.held) is.1)))) c.gather.ensures.pulls
+
+pub returns-clause-pulls : goal.returns-clause-pulls
+returns-clause-pulls g c =
+    then_for_a_line g.S.Source.gives _ c.fill.new.self.held c.args.source.now c.fill.new.source c.gather.new.source (first_pull g.S.Source.gives _ c.clear_line.new.self.held c.fill.new.self.held c.args.source.now c.fill.new.source (ap (λ (a : LineAndHeld). a.held) c.clear_line.ensures.cleared ∙ ap (λ (s : ReaderState). s.held) c.self.view_is) c.in_ok-fill.ensures.pull (λ some. (let is = c.in_ok-fill.ensures.quiet some in (is.0, ap (λ (a : LineAndHeld). a.held) is.1)))) c.gather.ensures.pulls
