@@ -10,3 +10,6 @@ pub mod Told
 pub mod AfterAll
 pub mod Moves
 pub mod Others
+pub mod Groups
+pub mod Played
+pub mod Crashes

@@ -4,6 +4,8 @@ pub mod Items
 pub mod FileData
 pub mod Disks
 pub mod Changed
+pub mod Groups
+pub mod Crash
 pub mod Starts
 pub mod MemStory
 pub mod CanDo

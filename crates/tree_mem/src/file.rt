@@ -1,5 +1,6 @@
 // The files of a disk.
 ghost use Rattle.std.specs.Prelude.{◌≡◌, [], true, false, IfOk};
+ghost use Rattle.tree_mem.specs.FileData.{file_left};
 
 use std::alloc::{AllocError, Global};
 use std::marker::Model;
@@ -65,6 +66,16 @@ impl MemFile {
     {
         self.bytes = bytes;
         self.firm = true;
+    }
+
+    /// The file after a stop, which keeps the bytes of one that isn't firm only where it is told to.
+    pub(crate) fn left(&self, alloc: Global, keeps: bool) -> Result<MemFile, AllocError>
+        ensures { IfOk result (λ file. file ≡ file_left keeps self.now) }
+    {
+        if self.firm || keeps {
+            return MemFile::firm(alloc, &self.bytes);
+        }
+        MemFile::firm(alloc, &[])
     }
 
     /// From now on a stop leaves the bytes as they are.

@@ -2,6 +2,7 @@
 #![tactic(auto)]
 
 mod calls;
+mod crash;
 mod disk;
 mod entries;
 mod fail;

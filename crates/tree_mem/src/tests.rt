@@ -12,6 +12,9 @@ use std::alloc::Global;
 use std::test::Fail;
 use tree_fs::{Bytes, Entry, Kind, Place, Tree, TreeError};
 
+mod calls;
+mod crash;
+
 fn place(alloc: Global, text: &str) -> Result<Place, Fail> {
     Ok(Place::parse(alloc, text)?)
 }
@@ -92,6 +95,24 @@ fn try_link(
     check_file(tree, &from)?;
     check_free(alloc, tree, &to)?;
     Ok(tree.link(&from, &to))
+}
+
+fn unlink(alloc: Global, tree: &mut MemTree, at: &str) -> Result<(), Fail> {
+    let at = place(alloc, at)?;
+    check_file(tree, &at)?;
+    Ok(tree.unlink(&at)?)
+}
+
+fn put_new(alloc: Global, tree: &mut MemTree, at: &str, bytes: &[u8]) -> Result<(), Fail> {
+    let at = place(alloc, at)?;
+    check_free(alloc, tree, &at)?;
+    Ok(tree.put_new(&at, bytes)?)
+}
+
+fn make_folder(alloc: Global, tree: &mut MemTree, at: &str) -> Result<(), Fail> {
+    let at = place(alloc, at)?;
+    check_free(alloc, tree, &at)?;
+    Ok(tree.make_folder(&at)?)
 }
 
 fn sync(alloc: Global, tree: &mut MemTree, at: &str) -> Result<(), Fail> {
