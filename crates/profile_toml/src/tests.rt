@@ -4,6 +4,7 @@ use crate::{
 use rel_paths::{ModId, RelPath};
 use std::process::Abort;
 use std::test::Fail;
+use std::time::{CpuClock, Duration};
 
 fn example() -> &'static str {
     "version = 1\n\n[[mods]]\nid = \"Texture Pack\"\nenabled = true\n\n[[mods.rules]]\nkind = \"after\"\nref = \"Base Meshes\"\n\n[[overrides]]\npath = \"Data/textures/sky.dds\"\nmod = \"Base Meshes\"\n"
@@ -229,26 +230,96 @@ fn add_rule(rt: &impl AllocGlobal, text: &mut String, place: u32) -> Result<(), 
     Ok(())
 }
 
-fn add_mod(rt: &impl AllocGlobal, text: &mut String, place: u32) -> Result<(), Fail> {
-    let head = format!(in rt.alloc(); "[[mods]]\nid = 'a{place}'\n")?;
+// Adds a mod with so many rules, and an override to it.
+fn add_mod(rt: &impl AllocGlobal, text: &mut String, place: u32, rules: u32) -> Result<(), Fail> {
+    let head = format!(in rt.alloc();
+        "[[overrides]]\npath = 'p{place}'\nmod = 'a{place}'\n[[mods]]\nid = 'a{place}'\n"
+    )?;
     text.push_str(head.as_str())?;
-    for rule in 0..20 {
+    for rule in 0..rules {
         add_rule(rt, text, rule)?;
     }
     Ok(())
 }
 
-// A document of so many mods with 20 rules each.
-fn many(rt: &impl AllocGlobal, count: u32) -> Result<String, Fail> {
+// A document of so many mods with so many rules each.
+fn many(rt: &impl AllocGlobal, mods: u32, rules: u32) -> Result<String, Fail> {
     let mut text = "version = 1\n".to_string(rt.alloc())?;
-    for place in 0..count {
-        add_mod(rt, &mut text, place)?;
+    for place in 0..mods {
+        add_mod(rt, &mut text, place, rules)?;
     }
     Ok(text)
 }
 
 #[test]
 fn many_mods_and_rules_are_read_and_printed(rt: HostRuntime) -> Result<(), Fail> {
-    let text = many(&rt, 2000)?;
+    let text = many(&rt, 2000, 20)?;
+    let profile = read_profile(rt.alloc(), text.as_bytes())?;
+    assert_eq!(rt; profile.mods().len(), 2000);
+    assert_eq!(rt; profile.overrides().len(), 2000);
+    for (id, entry) in profile.mods() {
+        assert_eq!(rt; entry.rules().len(), 20, "{id}");
+    }
     prints_alike(&rt, text.as_str())
+}
+
+// How long reading and printing took.
+#[derive(Clone, Copy)]
+struct Taken {
+    reading: Duration,
+    printing: Duration,
+}
+
+// The processor time of a document of so many mods with so many rules each.
+fn measure(rt: &(impl AllocGlobal + CpuClock), mods: u32, rules: u32) -> Result<Taken, Fail> {
+    let text = many(rt, mods, rules)?;
+    let start = rt.thread_cpu_time()?;
+    let profile = read_profile(rt.alloc(), text.as_bytes())?;
+    let read = rt.thread_cpu_time()?;
+    let _bytes = print_profile(rt.alloc(), profile)?;
+    let printed = rt.thread_cpu_time()?;
+    Ok(Taken {
+        reading: read.saturating_sub(start),
+        printing: printed.saturating_sub(read),
+    })
+}
+
+// Whether a document takes less than nine times the time of one that has a quarter of the text.
+// Linear time gives about 4 times, quadratic time 16 times.
+fn is_linear(small: Taken, large: Taken) -> bool {
+    large.reading / 9 < small.reading && large.printing / 9 < small.printing
+}
+
+// Other work on the machine can spoil one try.
+fn grows_linearly(
+    rt: &(impl AllocGlobal + CpuClock),
+    mods: [u32; 2],
+    rules: [u32; 2],
+) -> Result<bool, Fail> {
+    for _ in 0..5 {
+        let small = measure(rt, mods[0], rules[0])?;
+        let large = measure(rt, mods[1], rules[1])?;
+        if is_linear(small, large) {
+            return Ok(true);
+        }
+    }
+    Ok(false)
+}
+
+// A walk over all earlier mods shows where they have no rules.
+#[test]
+fn time_is_linear_in_the_text(rt: HostRuntime) -> Result<(), Fail> {
+    assert!(rt;
+        grows_linearly(&rt, [2000, 8000], [20, 20])?,
+        "mods with rules"
+    );
+    assert!(rt;
+        grows_linearly(&rt, [5000, 20000], [0, 0])?,
+        "mods without rules"
+    );
+    assert!(rt;
+        grows_linearly(&rt, [1, 1], [20000, 80000])?,
+        "rules of one mod"
+    );
+    Ok(())
 }
