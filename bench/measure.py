@@ -1,9 +1,10 @@
 #!/usr/bin/env python3
 """Measures the first `deploy` of flat mods. usage: bench/measure.py [PROGRAM] [--mods M] [SIZES..]
 
-For 5,000, 10,000 and 20,000 staged files in 200 mods: the least time of three runs, that time a
-file, and the peak memory above that of a run over no files. Where strace is there, also the system
-calls a staged file. PROGRAM is crates/mod_deployer/out/mod_deployer where none is named.
+For 5,000, 10,000 and 20,000 staged files in 200 mods: the least time of three runs, and that time a
+file. Where GNU time is there, also the peak memory above that of a run over no files; where strace is
+there, the system calls a staged file. PROGRAM is crates/mod_deployer/out/mod_deployer where none is
+named.
 """
 
 import argparse
@@ -24,45 +25,42 @@ PROGRAM = os.path.join(HERE, "..", "crates", "mod_deployer", "out", "mod_deploye
 RUNS = 3
 
 
-def deploy(program, world):
-    """Runs `deploy` once, and gives its seconds and its peak memory in KiB."""
-    started = time.perf_counter()
-    child = subprocess.Popen([program, "deploy"], cwd=world, stdout=subprocess.PIPE)
-    printed = child.stdout.read()
-    _, status, used = os.wait4(child.pid, 0)
-    seconds = time.perf_counter() - started
-    child.returncode = os.waitstatus_to_exitcode(status)
-    child.stdout.close()
-    if child.returncode != 0:
-        sys.exit(f"deploy ended with status {child.returncode}: {printed!r}")
-    return seconds, used.ru_maxrss
-
-
-def clear_game(world):
+def deploy(words, world, wanted=0):
+    """Runs `deploy` by these words, which must end so, over an empty game, and gives its seconds."""
     shutil.rmtree(os.path.join(world, "game"))
     os.mkdir(os.path.join(world, "game"))
+    started = time.perf_counter()
+    done = subprocess.run([*words, "deploy"], cwd=world, stdout=subprocess.PIPE)
+    seconds = time.perf_counter() - started
+    if done.returncode != wanted:
+        sys.exit(f"deploy ended with status {done.returncode}: {done.stdout!r}")
+    return seconds
 
 
-def least_of_runs(program, world):
-    seconds, peak = [], []
-    for _ in range(RUNS):
-        clear_game(world)
-        took, used = deploy(program, world)
-        seconds.append(took)
-        peak.append(used)
-    return min(seconds), max(peak)
+def least_seconds(program, world, wanted=0):
+    return min(deploy([program], world, wanted) for _ in range(RUNS))
 
 
-def calls_of(program, world):
+def peak_of(program, world, wanted=0):
+    """The peak memory of a deployment in bytes, by GNU time. What Python starts by itself inherits the
+    peak of Python."""
+    told = os.path.join(world, "time.txt")
+    deploy([shutil.which("time"), "-f", "%M", "-o", told, program], world, wanted)
+    with open(told) as lines:
+        return int(lines.read().split()[-1]) * 1024
+
+
+def peak_above(program, world, empty, wanted=0):
+    """The peak memory above that of a run over no files, or None where GNU time isn't there."""
+    if not shutil.which("time"):
+        return None
+    return peak_of(program, world, wanted) - peak_of(program, empty)
+
+
+def calls_of(program, world, wanted=0):
     """How often a deployment makes each system call, by strace."""
-    clear_game(world)
     counts = os.path.join(world, "strace.txt")
-    subprocess.run(
-        ["strace", "-f", "-c", "-o", counts, program, "deploy"],
-        cwd=world,
-        stdout=subprocess.DEVNULL,
-        check=True,
-    )
+    deploy(["strace", "-f", "-c", "-o", counts, program], world, wanted)
     calls = {}
     with open(counts) as lines:
         for line in lines:
@@ -73,8 +71,8 @@ def calls_of(program, world):
     return calls
 
 
-def tell_calls(program, world, files):
-    calls = calls_of(program, world)
+def tell_calls(program, world, files, wanted=0):
+    calls = calls_of(program, world, wanted)
     print(f"\nsystem calls at {files} files: {sum(calls.values()) / files:.2f} a staged file")
     for name, count in sorted(calls.items(), key=lambda call: -call[1]):
         if count * 1000 >= files:
@@ -93,17 +91,17 @@ def main():
     with tempfile.TemporaryDirectory(prefix="bench_", dir=os.getcwd()) as scratch:
         empty = os.path.join(scratch, "empty")
         make_world(0, 1, empty)
-        _, floor = least_of_runs(program, empty)
         print(f"{'files':>8} {'seconds':>9} {'us a file':>10} {'to the first':>13} {'bytes a file':>13}")
         first = None
         for files in words.sizes:
             world = os.path.join(scratch, str(files))
             make_world(files, words.mods, world)
-            seconds, peak = least_of_runs(program, world)
+            seconds = least_seconds(program, world)
             first = first or seconds / files
             ratio = seconds / files / first
-            memory = (peak - floor) * 1024 / files
-            print(f"{files:8} {seconds:9.3f} {seconds / files * 1e6:10.1f} {ratio:13.2f} {memory:13.0f}")
+            peak = peak_above(program, world, empty)
+            memory = "no GNU time" if peak is None else f"{peak / files:.0f}"
+            print(f"{files:8} {seconds:9.3f} {seconds / files * 1e6:10.1f} {ratio:13.2f} {memory:>13}")
         if shutil.which("strace"):
             files = words.sizes[0]
             tell_calls(program, os.path.join(scratch, str(files)), files)

@@ -47,22 +47,8 @@ def the_least_taken_path_is_told(world):
     world.text("game/m", "mine")
 
 
-def a_folder_in_a_mod_is_refused(world):
-    _two_mods(world).folder("stage/a/d")
-    before = world.everything()
-    world.run("deploy").prints("refused\t44\tFolder\tstage/a/d").ends(3)
-    world.unchanged(before)
-
-
 def a_profile_is_refused(world):
     _two_mods(world).file("keep/profile.toml", "")
-    before = world.everything()
-    world.run("deploy").prints("refused\t45\tNotBuilt").ends(3)
-    world.unchanged(before)
-
-
-def a_reserved_name_in_a_mod_is_refused(world):
-    _two_mods(world).file("stage/b/y.txt.vortex_backup", "")
     before = world.everything()
     world.run("deploy").prints("refused\t45\tNotBuilt").ends(3)
     world.unchanged(before)

@@ -1,8 +1,10 @@
 """A scratch folder in which the real program runs, and what a case says of it."""
 
 import os
+import shutil
 import subprocess
 import sys
+import time
 
 LIMIT_SECONDS = 120
 
@@ -31,6 +33,13 @@ class World:
         os.makedirs(self.path(place), exist_ok=True)
         return self
 
+    def many_files(self, place, count):
+        """So many empty files in the folder."""
+        self.folder(place)
+        for number in range(count):
+            os.mknod(self.path(f"{place}/{number:06d}"))
+        return self
+
     def roots(self):
         return self.folder("stage").folder("game").folder("keep")
 
@@ -47,6 +56,7 @@ class World:
     def run(self, *words, stdin=b"", stdout=None):
         """Runs the program on the words, which are texts or bytes; `stdout` is a file to print to."""
         out = open(stdout, "wb") if stdout else None
+        started = time.monotonic()
         try:
             done = subprocess.run(
                 [self.program, *words],
@@ -60,7 +70,16 @@ class World:
             if out:
                 out.close()
         same("standard error", done.stderr, b"")
-        return Run(done.returncode, done.stdout or b"")
+        return Run(done.returncode, done.stdout or b"", time.monotonic() - started)
+
+    def remove(self, place):
+        """Takes the file away, or the folder with all that is in it."""
+        path = self.path(place)
+        if os.path.isdir(path):
+            shutil.rmtree(path)
+        else:
+            os.remove(path)
+        return self
 
     # What is there afterwards.
 
@@ -106,11 +125,12 @@ class World:
 
 
 class Run:
-    """How the program ended, and what it printed."""
+    """How the program ended, what it printed, and how long it took."""
 
-    def __init__(self, status, printed):
+    def __init__(self, status, printed, seconds):
         self.status = status
         self.printed = printed
+        self.seconds = seconds
 
     def prints(self, *lines):
         same("what was printed", self.printed, b"".join(_bytes(line) + b"\n" for line in lines))
@@ -118,6 +138,11 @@ class Run:
 
     def ends(self, status):
         same("the status", self.status, status)
+        return self
+
+    def within(self, seconds):
+        if self.seconds > seconds:
+            raise Failure(f"{self.seconds:.1f} seconds, and not at most {seconds}")
         return self
 
 

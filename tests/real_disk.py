@@ -16,13 +16,25 @@ def a_linked_folder_of_the_stage_is_no_mod(world):
 def a_linked_file_in_a_mod_is_refused(world):
     _two_mods(world).symlink("stage/b/y.txt", "x.txt")
     before = world.everything()
-    world.run("deploy").prints("refused\t45\tNotBuilt").ends(3)
+    world.run("deploy").prints("refused\t20\tOddEntry\tstage/b\ty.txt").ends(3)
     world.unchanged(before)
+
+
+def a_linked_folder_in_a_mod_is_refused(world):
+    _two_mods(world).file("elsewhere/y.txt", "no mod").symlink("stage/a/y", "../../elsewhere")
+    before = world.everything()
+    world.run("deploy").prints("refused\t20\tOddEntry\tstage/a\ty").ends(3)
+    world.unchanged(before)
+
+
+def a_link_deeper_in_a_mod_is_refused_with_its_folder(world):
+    _two_mods(world).symlink("stage/a/d/e/y", "nowhere")
+    world.run("deploy").prints("refused\t20\tOddEntry\tstage/a/d/e\ty").ends(3)
 
 
 def a_pipe_in_a_mod_is_refused(world):
     _two_mods(world).fifo("stage/b/pipe")
-    world.run("deploy").prints("refused\t45\tNotBuilt").ends(3)
+    world.run("deploy").prints("refused\t20\tOddEntry\tstage/b\tpipe").ends(3)
     world.absent("game/x.txt")
 
 

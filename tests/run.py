@@ -17,6 +17,7 @@ sys.dont_write_bytecode = True
 
 import flat_deploy
 import real_disk
+import scans
 from harness import run_cases
 
 PROGRAM = os.path.join(HERE, "..", "crates", "mod_deployer", "out", "mod_deployer")
@@ -39,7 +40,7 @@ def main(words):
     wanted = set(words[1:])
     cases = [
         case
-        for module in (flat_deploy, real_disk)
+        for module in (flat_deploy, real_disk, scans)
         for case in cases_of(module)
         if not wanted or case.__name__ in wanted
     ]

@@ -1,203 +1,157 @@
--- From the mods that were read to what a deployment would do.
-use Rattle.std.proofs.Common.{◌≡◌, ◌⊎◌, ℕ, Bool, true, false, not, ◌&&◌, List, [], ◌∷◌, ◌++◌, sym, refl, subst, ap, ◌∙◌, map, inl, inr, arith, length, suc, zero}
-use Rattle.std.specs.Prelude.{nat_eq}
-use Rattle.std.specs.List.{AllByRecursion, Contains, list_all}
+-- From the scans of the mods to what a deployment would do.
+use Rattle.std.proofs.Common.{◌≡◌, ℕ, ◌<◌, true, false, List, ◌∷◌, ◌++◌, sym, subst, ap, ◌∙◌, map, inl, inr, arith, length}
+use Rattle.std.specs.List.{AllByRecursion, Contains}
 use Rattle.std.specs.List.Sorted.{IsStrictlySortedBy}
-use Rattle.std.specs.Option.{MatchOption}
 use Rattle.std.specs.Ordering.{nat_cmp}
 use Rattle.std.specs.Cmp.Lexicographic.{slice_cmp}
-use Rattle.std.specs.declared.option.Option.TheVariants.{None}
 use Rattle.std.proofs.lemmas.List.{map-append}
-use Rattle.std.proofs.lemmas.List.Elements.{All-from_recursion}
-use Rattle.rel_paths.specs.Names.{names_of, text_of}
-use Rattle.rel_paths.proofs.NamesOf.{has_names, names_of-one, text_of-names_of}
-use Rattle.tree_fs.specs.declared.place.Root.TheVariants.{Stage}
-use Rattle.tree_fs.specs.declared.name.Kind.TheVariants.{Absent, File, Folder}
-use Rattle.tree_fs.specs.EntryName.{IsName}
-use Rattle.tree_fs.specs.Spot.{Spot, spot_of, parent, front_names}
+use Rattle.rel_paths.specs.Names.{names_of}
+use Rattle.tree_fs.specs.declared.name.Kind.TheVariants.{Absent, File}
+use Rattle.tree_fs.specs.Spot.{Spot, spot_of}
 use Rattle.tree_fs.specs.Places.{staged_spot, game_spot}
-use Rattle.tree_fs.specs.Disk.{Disk, IsValid, kind_of}
-use Rattle.tree_fs.proofs.Disks.{file-in_folder}
-use Rattle.tree_fs.proofs.KindOf.{kind-file, folder-kind}
-use Rattle.tree_fs.proofs.Lists.{all_right, all_item, all_weaken, contains_map, contains_cases, contains_here, contains_there, map_contains}
-use Rattle.deploy_engine.specs.declared.staged.FlatMod.{FlatMod}
+use Rattle.tree_fs.specs.Disk.{Disk, kind_of}
+use Rattle.tree_fs.proofs.Lists.{all_right, all_item, all_weaken, contains_map, map_contains}
+use Rattle.stage_scan.specs.declared.scan.Scan.{Scan}
+use Rattle.deploy_engine.specs.declared.refusal.Refusal.TheVariants as refusal
+use Rattle.deploy_engine.specs.declared.refusal.Early.TheVariants as early
 use Rattle.deploy_engine.specs.declared.winners.Win.{Win}
-use Rattle.deploy_engine.specs.Mods.{IsBelow, IsAtMost, IsMod, Provides, IsProvided, IsWinner}
-use Rattle.deploy_engine.specs.Refusals.{entry_spot, IsUsable, IsBuilt, HasFolder, HasNoFolder, IsFirstFolder, IsFirstTaken, NoControlThere}
-use Rattle.deploy_engine.specs.Flat.{HoldsFlat}
-use Rattle.deploy_engine.specs.Looks.{AreMods}
-use Rattle.deploy_engine.specs.Wins.{has_file, IsLastWith, IsWinOf, AreWinsOf, IsFirstWithFolder, IsWin, AreWins, IsFirstTakenOf, AreFree, AreFlat}
+use Rattle.deploy_engine.specs.declared.decide.Decision.{Decision}
+use Rattle.deploy_engine.specs.declared.decide.Decision.TheVariants.{Refuse, Link}
+use Rattle.deploy_engine.specs.Mods.{IsBelow, IsMod, Provides, IsProvided, IsWinner}
+use Rattle.deploy_engine.specs.Scans.{IsScanned}
+use Rattle.deploy_engine.specs.Refusals.{NoControlThere, HasNoDeep, IsFirstDeep, IsFirstTaken}
+use Rattle.deploy_engine.specs.Looks.{ids_of, IsScanOfMod, AreScans}
+use Rattle.deploy_engine.specs.Wins.{has_file, IsLastWith, IsWinOf, AreWinsOf, IsFlatPath, IsFlatScan, IsFirstDeepOf, IsWin, AreWins, IsFirstTakenOf, AreFree, AreFlat}
+use Rattle.deploy_engine.specs.Decisions.{IsDecidedOnScans, IsDecided}
 use Rattle.deploy_engine.proofs.Winning.{contains_from_any, any_from_contains}
-use Rattle.deploy_engine.proofs.Linking.{sorted-front}
+use Rattle.deploy_engine.proofs.Linking.{sorted-front, sorted-back, at_seam}
 
--- Lists
-
--- an item of a list stands in front of a seam, at it or behind it
-pub at_seam : {X : Type 0} (xs : List X) (y : X) (ys : List X) (x : X) → Contains (xs ++ y ∷ ys) x → Contains xs x ⊎ (x ≡ y) ⊎ Contains ys x
-at_seam [] y ys x c = inr (contains_cases y x ys c)
-at_seam (z ∷ zs) y ys x c = elim (contains_cases z x (zs ++ y ∷ ys) c) [
-  | inl e ↦ inl (subst (λ v. Contains (z ∷ zs) v) (sym e) (contains_here z zs))
-  | inr there ↦ elim (at_seam zs y ys x there) [ inl l ↦ inl (contains_there z x zs l) | inr r ↦ inr r ]
-]
-
-pub sorted-back : (xs : List (List ℕ)) (y : List ℕ) (ys : List (List ℕ)) → IsStrictlySortedBy (slice_cmp nat_cmp) (xs ++ y ∷ ys) → AllByRecursion (λ x. IsBelow y x) ys
-unfolding IsStrictlySortedBy
-sorted-back [] y ys s = s.0
-sorted-back (x ∷ xs) y ys s = sorted-back xs y ys s.1
-
--- Names
-
-and_right : (a b : Bool) → (a && b) ≡ true → b ≡ true
-and_right true b h = h
-and_right false b h = absurd (cc)
-
-no_slash : (n : List ℕ) → list_all (λ b. not (nat_eq b 47) && not (nat_eq b 0)) n ≡ true → AllByRecursion (λ b. nat_eq b 47 ≡ false) n
-no_slash [] h = tt
-no_slash (b ∷ bs) h = (first (nat_eq b 47) (nat_eq b 0) h, no_slash bs (and_right (not (nat_eq b 47) && not (nat_eq b 0)) (list_all (λ b. not (nat_eq b 47) && not (nat_eq b 0)) bs) h))
-  where
-    first : (x y : Bool) → ((not x && not y) && list_all (λ b. not (nat_eq b 47) && not (nat_eq b 0)) bs) ≡ true → x ≡ false
-    first false y k = refl
-    first true y k = absurd (cc)
-
--- the name of an entry is a path of one name
-pub name_one : (n : List ℕ) → IsName n → names_of n ≡ n ∷ []
-name_one n is = names_of-one n (All-from_recursion (λ b. nat_eq b 47 ≡ false) n (no_slash n (and_right _ (list_all (λ b. not (nat_eq b 47) && not (nat_eq b 0)) n) is)))
-
-pub entry_staged : (id n : List ℕ) → names_of n ≡ n ∷ [] → staged_spot id n ≡ entry_spot id n
-entry_staged id n one = λ i. record { root = Stage; names = id ∷ one i }
-
--- Folders
-
-length-front_names : (x : List ℕ) (xs : List (List ℕ)) → length (front_names (x ∷ xs)) ≡ length xs
-length-front_names x [] = refl
-length-front_names x (y ∷ ys) = ap suc (length-front_names y ys)
-
--- what lies in a folder of a mod lies in a folder right in it
-folder_above : (d : Disk) → IsValid d → (a b : List ℕ) (n : ℕ) (xs : List (List ℕ)) → length xs ≡ n → d.folders (record { root = Stage; names = a ∷ b ∷ xs }) ≡ true → d.folders (record { root = Stage; names = a ∷ b ∷ [] }) ≡ true
-unfolding parent
-folder_above d valid a b n [] e h = h
-folder_above d valid a b zero (x ∷ xs) e h = absurd (omega arith)
-folder_above d valid a b (suc n) (x ∷ xs) e h = folder_above d valid a b n (front_names (x ∷ xs)) (length-front_names x xs ∙ omega arith) (valid.nested (record { root = Stage; names = a ∷ b ∷ x ∷ xs }) h)
-
-file_above : (d : Disk) → IsValid d → (a b x : List ℕ) (xs : List (List ℕ)) → kind_of d (record { root = Stage; names = a ∷ b ∷ x ∷ xs }) ≡ File → d.folders (record { root = Stage; names = a ∷ b ∷ [] }) ≡ true
-unfolding parent
-file_above d valid a b x xs is = folder_above d valid a b _ (front_names (x ∷ xs)) refl (file-in_folder d (record { root = Stage; names = a ∷ b ∷ x ∷ xs }) valid (kind-file d _ is).1)
-
--- where no mod has a folder, each provided path has one name
-pub provided_one : (d : Disk) → IsValid d → HasNoFolder d → (id path : List ℕ) → Provides d id path → names_of path ≡ path ∷ []
-provided_one d valid flat id path provides = by_names (has_names path)
-  where
-    by_names : (n : List ℕ) × (ns : List (List ℕ)) × (names_of path ≡ n ∷ ns) → names_of path ≡ path ∷ []
-    by_names (n, ns, is) = by_rest n ns is
-      where
-        by_rest : (n : List ℕ) (ns : List (List ℕ)) → names_of path ≡ n ∷ ns → names_of path ≡ path ∷ []
-        by_rest n [] is = is ∙ ap (λ t. t ∷ []) (ap text_of (sym is) ∙ text_of-names_of path)
-        by_rest n (x ∷ xs) is = absurd (flat id n (provides.is_mod, folder-kind d (entry_spot id n) (file_above d valid id n x xs (subst (λ ns. kind_of d (record { root = Stage; names = id ∷ ns }) ≡ File) is provides.file))))
+-- a path of one name isn't deep
+flat_or_deep : (path : List ℕ) → IsFlatPath path → 1 < length (names_of path) → ⊥
+flat_or_deep path one deep = let count : length (names_of path) ≡ 1 = ap (λ (l : List (List ℕ)). length l) one in omega (arith, count, deep)
 
 -- The mods
 
-module _ (d : Disk) (mods : List FlatMod) (are : AreMods d mods) where
-  -- the mod with this id
-  pub mod_of : (id : List ℕ) → IsMod d id → (m : FlatMod) × Contains mods m × (m.id ≡ id) × HoldsFlat d m
-  mod_of id is_mod =
-      let found = contains_map (λ (m : FlatMod). m.id) mods id (are.whole id is_mod) in
-      (found.0, found.1, found.2, all_item (HoldsFlat d) mods found.0 are.each found.1)
+module _ (d : Disk) (scans : List Scan) (are : AreScans d scans) where
+  -- the scan of the mod with this id
+  scan_of : (id : List ℕ) → IsMod d id → (s : Scan) × Contains scans s × (s.mod_id ≡ id) × IsScanOfMod d s
+  scan_of id is_mod =
+      let found = contains_map (λ (s : Scan). s.mod_id) scans id (are.mods.whole id is_mod) in
+      (found.0, found.1, found.2, all_item (IsScanOfMod d) scans found.0 are.each found.1)
 
-  pub is_built : NoControlThere d → IsBuilt d
-  is_built controls = record {
-    controls = controls;
-    entries = λ id name is_mod there.
-        let found = mod_of id is_mod in
-        let at : kind_of d (entry_spot found.0.id name) ≡ kind_of d (entry_spot id name) = ap (λ i. kind_of d (entry_spot i name)) found.2 in
-        subst (λ k. IsUsable k name) at (found.3.usable name (λ gone. there (sym at ∙ gone)));
-  }
+  -- one of the scans, where it stands
+  module _ (front : List Scan) (scan : Scan) (back : List Scan) (here : scans ≡ front ++ scan ∷ back) where
+    this_is : IsScanOfMod d scan
+    this_is = (all_right (IsScanOfMod d) front (scan ∷ back) (subst (AllByRecursion (IsScanOfMod d)) here are.each)).0
 
-  folder_of : (m : FlatMod) → HoldsFlat d m → m.folder ≡ None → (name : List ℕ) → HasFolder d m.id name → ⊥
-  folder_of m holds none = subst (λ o. MatchOption o ((name : List ℕ) → HasFolder d m.id name → ⊥) (λ name. HasFolder d m.id name × ((other : List ℕ) → HasFolder d m.id other → IsAtMost name other))) none holds.folder
+    seam_ids : ids_of scans ≡ ids_of front ++ scan.mod_id ∷ ids_of back
+    seam_ids = ap ids_of here ∙ map-append (λ (s : Scan). s.mod_id) front (scan ∷ back)
 
-  pub no_folder : AllByRecursion (λ m. m.folder ≡ None) mods → HasNoFolder d
-  no_folder none id name has =
-      let found = mod_of id has.0 in
-      folder_of found.0 found.3 (all_item (λ (m : FlatMod). m.folder ≡ None) mods found.0 none found.1) name (subst (λ i. HasFolder d i name) (sym found.2) has)
+    this_mod : IsMod d scan.mod_id
+    this_mod = (all_right (IsMod d) (ids_of front) (scan.mod_id ∷ ids_of back) (subst (AllByRecursion (IsMod d)) seam_ids are.mods.each)).0
 
-  pub first_folder_of : (spot : Spot) → IsFirstWithFolder mods spot → IsFirstFolder d spot
-  first_folder_of spot first =
-      let found = first.found in
-      let each = subst (AllByRecursion (HoldsFlat d)) first.here are.each in
-      let holds = (all_right (HoldsFlat d) first.front (found ∷ first.back) each).0 in
-      let tells : HasFolder d found.id first.name × ((other : List ℕ) → HasFolder d found.id other → IsAtMost first.name other) =
-      subst (λ o. MatchOption o ((name : List ℕ) → HasFolder d found.id name → ⊥) (λ name. HasFolder d found.id name × ((other : List ℕ) → HasFolder d found.id other → IsAtMost name other))) first.folder holds.folder in
-      let one = name_one first.name (holds.named first.name (λ gone. let no_way : Folder ≡ Absent = sym tells.0.1 ∙ gone in cc)) in
-      let order = subst (IsStrictlySortedBy (slice_cmp nat_cmp)) (map-append (λ (m : FlatMod). m.id) first.front (found ∷ first.back)) (subst (λ l. IsStrictlySortedBy (slice_cmp nat_cmp) (map (λ (m : FlatMod). m.id) l)) first.here are.order) in
+    order : IsStrictlySortedBy (slice_cmp nat_cmp) (ids_of front ++ scan.mod_id ∷ ids_of back)
+    order = subst (IsStrictlySortedBy (slice_cmp nat_cmp)) seam_ids are.mods.order
+
+    front_below : (s : Scan) → Contains front s → IsBelow s.mod_id scan.mod_id
+    front_below s there = all_item (λ i. IsBelow i scan.mod_id) (ids_of front) s.mod_id (sorted-front (ids_of front) scan.mod_id (ids_of back) order) (map_contains (λ (x : Scan). x.mod_id) front s there)
+
+    back_above : (s : Scan) → Contains back s → IsBelow scan.mod_id s.mod_id
+    back_above s there = all_item (λ i. IsBelow scan.mod_id i) (ids_of back) s.mod_id (sorted-back (ids_of front) scan.mod_id (ids_of back) order) (map_contains (λ (x : Scan). x.mod_id) back s there)
+
+  -- what a mod provides is a file of its scan
+  file_in : (s : Scan) (id path : List ℕ) → s.mod_id ≡ id → IsScanOfMod d s → kind_of d (staged_spot id path) ≡ File → Contains s.files.items path
+  file_in s id path same holds is = holds.files.whole path (subst (λ i. kind_of d (staged_spot i path) ≡ File) (sym same) is)
+
+  pub no_deep : AllByRecursion IsFlatScan scans → HasNoDeep d
+  no_deep flat id path deep =
+      let of = scan_of id deep.provides.is_mod in
+      let in_scan = file_in of.0 id path of.2 of.3 deep.provides.file in
+      flat_or_deep path (all_item IsFlatPath of.0.files.items path (all_item IsFlatScan scans of.0 flat of.1) in_scan) deep.deep
+
+  pub first_deep_of : (spot : Spot) → IsFirstDeepOf scans spot → IsFirstDeep d spot
+  first_deep_of spot first =
+      let scan = first.found in
+      let own = first.first in
+      let files = scan.files.items in
+      let holds = this_is first.front scan first.back first.here in
+      let file = (all_right (λ p. kind_of d (staged_spot scan.mod_id p) ≡ File) own.front (own.path ∷ own.back) (subst (AllByRecursion (λ p. kind_of d (staged_spot scan.mod_id p) ≡ File)) own.here holds.files.each)).0 in
+      let sorted = subst (IsStrictlySortedBy (slice_cmp nat_cmp)) own.here holds.files.order in
       record {
-        id = found.id;
-        name = first.name;
-        is = first.is ∙ entry_staged found.id first.name one;
-        there = tells.0;
-        first = λ other_id other has.
-            let of = mod_of other_id has.0 in
-            let here = subst (λ l. Contains l of.0) first.here of.1 in
-            elim (at_seam first.front found first.back of.0 here) [
-              | inl front ↦ absurd (folder_of of.0 of.3 (all_item (λ (m : FlatMod). m.folder ≡ None) first.front of.0 first.before front) other (subst (λ i. HasFolder d i other) (sym of.2) has))
+        id = scan.mod_id;
+        path = own.path;
+        there = record { provides = record { is_mod = this_mod first.front scan first.back first.here; file = file }; deep = own.deep };
+        is = own.is;
+        first = λ other_id other deep.
+            let of = scan_of other_id deep.provides.is_mod in
+            let in_scan = file_in of.0 other_id other of.2 of.3 deep.provides.file in
+            elim (at_seam first.front scan first.back of.0 (subst (λ l. Contains l of.0) first.here of.1)) [
+              | inl front ↦ absurd (flat_or_deep other (all_item IsFlatPath of.0.files.items other (all_item IsFlatScan first.front of.0 first.before front) in_scan) deep.deep)
               | inr rest ↦ elim rest [
-                | inl same ↦ inr (ap (λ (m : FlatMod). m.id) (sym same) ∙ of.2, tells.1 other (subst (λ i. HasFolder d i other) (sym (ap (λ (m : FlatMod). m.id) (sym same) ∙ of.2)) has))
-                | inr back ↦ inl (subst (λ i. IsBelow found.id i) of.2 (all_item (λ i. IsBelow found.id i) (map (λ (m : FlatMod). m.id) first.back) of.0.id (sorted-back (map (λ (m : FlatMod). m.id) first.front) found.id (map (λ (m : FlatMod). m.id) first.back) order) (map_contains (λ (m : FlatMod). m.id) first.back of.0 back)))
+                | inl same ↦
+                    let id_is : scan.mod_id ≡ other_id = ap (λ (s : Scan). s.mod_id) (sym same) ∙ of.2 in
+                    let here : Contains (own.front ++ own.path ∷ own.back) other = subst (λ l. Contains l other) own.here (subst (λ (s : Scan). Contains s.files.items other) same in_scan) in
+                    inr (
+                      id_is,
+                      elim (at_seam own.front own.path own.back other here) [
+                        | inl before ↦ absurd (flat_or_deep other (all_item IsFlatPath own.front other own.before before) deep.deep)
+                        | inr more ↦ elim more [
+                          | inl equal ↦ inl (sym equal)
+                          | inr behind ↦ inr (all_item (λ p. IsBelow own.path p) own.back other (sorted-back own.front own.path own.back sorted) behind)
+                        ]
+                      ],
+                    )
+                | inr back ↦ inl (subst (λ i. IsBelow scan.mod_id i) of.2 (back_above first.front scan first.back first.here of.0 back))
               ]
             ];
       }
 
-  -- the file of a mod, by its path
-  file_of : (m : FlatMod) (path : List ℕ) → HoldsFlat d m → has_file path m ≡ true → (kind_of d (entry_spot m.id path) ≡ File) × (names_of path ≡ path ∷ [])
-  file_of m path holds has =
-      let file = all_item (λ p. kind_of d (entry_spot m.id p) ≡ File) m.files.items path holds.files (contains_from_any path m.files.items has) in
-      (file, name_one path (holds.named path (λ gone. let no_way : File ≡ Absent = sym file ∙ gone in cc)))
-
-  has_of : (m : FlatMod) (path : List ℕ) → HoldsFlat d m → names_of path ≡ path ∷ [] → kind_of d (staged_spot m.id path) ≡ File → has_file path m ≡ true
-  has_of m path holds one is = any_from_contains path m.files.items (holds.whole path (subst (λ q. kind_of d q ≡ File) (entry_staged m.id path one) is))
-
-  pub is_winner : (path : List ℕ) (count : ℕ) (last : IsLastWith mods path count) → IsWinner d last.winner.id path × (names_of path ≡ path ∷ [])
+  is_winner : (path : List ℕ) (count : ℕ) (last : IsLastWith scans path count) → IsWinner d last.winner.mod_id path
   is_winner path count last =
       let winner = last.winner in
-      let each = subst (AllByRecursion (HoldsFlat d)) last.here are.each in
-      let holds = (all_right (HoldsFlat d) last.front (winner ∷ last.back) each).0 in
-      let file = file_of winner path holds last.has in
-      let order = subst (IsStrictlySortedBy (slice_cmp nat_cmp)) (map-append (λ (m : FlatMod). m.id) last.front (winner ∷ last.back)) (subst (λ l. IsStrictlySortedBy (slice_cmp nat_cmp) (map (λ (m : FlatMod). m.id) l)) last.here are.order) in (
-        record {
-          provides = record { is_mod = holds.is_mod; file = subst (λ q. kind_of d q ≡ File) (sym (entry_staged winner.id path file.1)) file.0 };
-          last = λ other provides.
-              let of = mod_of other provides.is_mod in
-              let here = subst (λ l. Contains l of.0) last.here of.1 in
-              elim (at_seam last.front winner last.back of.0 here) [
-                | inl front ↦ inr (subst (λ i. IsBelow i winner.id) of.2 (all_item (λ i. IsBelow i winner.id) (map (λ (m : FlatMod). m.id) last.front) of.0.id (sorted-front (map (λ (m : FlatMod). m.id) last.front) winner.id (map (λ (m : FlatMod). m.id) last.back) order) (map_contains (λ (m : FlatMod). m.id) last.front of.0 front)))
-                | inr rest ↦ elim rest [
-                  | inl same ↦ inl (sym of.2 ∙ ap (λ (m : FlatMod). m.id) same)
-                  | inr back ↦
-                      let has = has_of of.0 path of.3 file.1 (subst (λ i. kind_of d (staged_spot i path) ≡ File) (sym of.2) provides.file) in
-                      let no_way : true ≡ false = sym has ∙ all_item (λ m. has_file path m ≡ false) last.back of.0 last.none_behind back in
-                      absurd (cc)
-                ]
-              ];
-        },
-        file.1,
-      )
+      let holds = this_is last.front winner last.back last.here in
+      record {
+        provides = record {
+          is_mod = this_mod last.front winner last.back last.here;
+          file = all_item (λ p. kind_of d (staged_spot winner.mod_id p) ≡ File) winner.files.items path holds.files.each (contains_from_any path winner.files.items last.has);
+        };
+        last = λ other provides.
+            let of = scan_of other provides.is_mod in
+            elim (at_seam last.front winner last.back of.0 (subst (λ l. Contains l of.0) last.here of.1)) [
+              | inl front ↦ inr (subst (λ i. IsBelow i winner.mod_id) of.2 (front_below last.front winner last.back last.here of.0 front))
+              | inr rest ↦ elim rest [
+                | inl same ↦ inl (sym of.2 ∙ ap (λ (s : Scan). s.mod_id) same)
+                | inr back ↦
+                    let has = any_from_contains path of.0.files.items (file_in of.0 other path of.2 of.3 provides.file) in
+                    let no_way : true ≡ false = sym has ∙ all_item (λ s. has_file path s ≡ false) last.back of.0 last.none_behind back in
+                    absurd (cc)
+              ]
+            ];
+      }
 
-  pub are_wins : (wins : List Win) → IsValid d → HasNoFolder d → AreWinsOf mods wins → AreWins d wins
-  are_wins wins valid flat of_mods = record {
-    order = of_mods.order;
-    each = all_weaken (IsWinOf mods) (IsWin d) wins (λ w is. record { id = is.last.winner.id; winner = (is_winner w.path is.count is.last).0; from = is.from; to = is.to }) of_mods.each;
-    whole = λ path provided. elim (of_mods.whole path) [
+  pub are_wins : (wins : List Win) → AreWinsOf scans wins → AreWins d wins
+  are_wins wins of_scans = record {
+    order = of_scans.order;
+    each = all_weaken (IsWinOf scans) (IsWin d) wins (λ w is. record { id = is.last.winner.mod_id; winner = is_winner w.path is.count is.last; from = is.from; to = is.to }) of_scans.each;
+    whole = λ path provided. elim (of_scans.whole path) [
       | inl never ↦
-          let of = mod_of provided.0 provided.1.is_mod in
-          let one = provided_one d valid flat provided.0 path provided.1 in
-          let has = has_of of.0 path of.3 one (subst (λ i. kind_of d (staged_spot i path) ≡ File) (sym of.2) provided.1.file) in
-          let no_way : true ≡ false = sym has ∙ all_item (λ m. has_file path m ≡ false) mods of.0 never of.1 in
+          let of = scan_of provided.0 provided.1.is_mod in
+          let has = any_from_contains path of.0.files.items (file_in of.0 provided.0 path of.2 of.3 provided.1.file) in
+          let no_way : true ≡ false = sym has ∙ all_item (λ s. has_file path s ≡ false) scans of.0 never of.1 in
           absurd (cc)
       | inr there ↦ there
     ];
   }
 
-  pub are_flat : (wins : List Win) → AreWinsOf mods wins → AreFlat wins
-  are_flat wins of_mods = all_weaken (IsWinOf mods) (λ w. names_of w.path ≡ w.path ∷ []) wins (λ w is. (is_winner w.path is.count is.last).1) of_mods.each
+-- the winners of mods whose paths have one name
+pub are_flat : (scans : List Scan) (wins : List Win) → AllByRecursion IsFlatScan scans → AreWinsOf scans wins → AreFlat wins
+are_flat scans wins flat of_scans =
+    all_weaken (IsWinOf scans) (λ w. IsFlatPath w.path) wins
+    (λ w is.
+    let winner = is.last.winner in
+    let its = (all_right IsFlatScan is.last.front (winner ∷ is.last.back) (subst (AllByRecursion IsFlatScan) is.last.here flat)).0 in
+    all_item IsFlatPath winner.files.items w.path its (contains_from_any w.path winner.files.items is.last.has))
+    of_scans.each
 
 -- The game folder
 
@@ -228,3 +182,11 @@ module _ (d : Disk) (wins : List Win) (are : AreWins d wins) where
       let of = contains_map (λ (w : Win). w.path) wins path (are.whole path provided) in
       let is_of = all_item (IsWin d) wins of.0 are.each of.1 in
       ap (kind_of d) (ap game_spot (sym of.2) ∙ sym is_of.to) ∙ all_item (λ (w : Win). kind_of d (spot_of w.to) ≡ Absent) wins of.0 free of.1
+
+-- where a control place and the scans refuse nothing, the rest decides
+pub decided : (d : Disk) (most : ℕ) (decision : Decision) → NoControlThere d → IsScanned d most → IsDecidedOnScans d decision → IsDecided d most decision
+decided d most (Refuse (refusal.Early early.NotBuilt)) controls scanned on_scans = absurd on_scans
+decided d most (Refuse (refusal.Scan scan)) controls scanned on_scans = absurd on_scans
+decided d most (Refuse (refusal.Early (early.Folder place))) controls scanned on_scans = (controls, scanned, on_scans)
+decided d most (Refuse (refusal.Early (early.Taken path))) controls scanned on_scans = (controls, scanned, on_scans.0, on_scans.1)
+decided d most (Link wins) controls scanned on_scans = (record { controls = controls; scanned = scanned; flat = on_scans.0; free = free_paths d wins.items on_scans.1.wins_of on_scans.1.free }, on_scans.1)

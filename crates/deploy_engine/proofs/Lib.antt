@@ -1,8 +1,9 @@
-pub mod Sorting
-pub mod Listed
 pub mod ModsFound
+pub mod Scanning
 pub mod Winning
 pub mod Items
 pub mod Linking
+pub mod Names
 pub mod Deciding
+pub mod Exclusion
 pub mod Speaking

@@ -1,6 +1,6 @@
 -- Linking the winners' files, one after the other.
-use Rattle.std.proofs.Common.{◌≡◌, ◌≢◌, ℕ, Bool, true, false, List, [], ◌∷◌, ◌++◌, sym, refl, subst, ap, ◌∙◌, map, inl, inr}
-use Rattle.std.specs.List.{AllByRecursion}
+use Rattle.std.proofs.Common.{◌≡◌, ◌≢◌, ◌⊎◌, ℕ, Bool, true, false, List, [], ◌∷◌, ◌++◌, sym, refl, subst, ap, ◌∙◌, map, inl, inr}
+use Rattle.std.specs.List.{AllByRecursion, Contains}
 use Rattle.std.specs.List.Sorted.{IsStrictlySortedBy}
 use Rattle.std.specs.Ordering.{nat_cmp, ordering_reverse}
 use Rattle.std.specs.Cmp.Lexicographic.{slice_cmp}
@@ -28,7 +28,7 @@ use Rattle.tree_fs.proofs.Spots.{parent-below, is_entry-below}
 use Rattle.tree_fs.proofs.Disks.{MayHold-synced, before-put_other, before_synced_tells}
 use Rattle.tree_fs.proofs.Ops.{now-linked, now-linked_other, MayHold-linked}
 use Rattle.tree_fs.proofs.KindOf.{kind-file, kind-absent}
-use Rattle.tree_fs.proofs.Lists.{all_left, all_right, all_both, all_weaken, all_item, all_more, all_unmap, contains_map}
+use Rattle.tree_fs.proofs.Lists.{all_left, all_right, all_both, all_weaken, all_item, all_more, all_unmap, contains_map, contains_cases, contains_here, contains_there}
 use Rattle.deploy_engine.specs.declared.winners.Win.{Win}
 use Rattle.deploy_engine.specs.Mods.{IsBelow, IsAtMost, IsProvided, IsWinner}
 use Rattle.deploy_engine.specs.Deployed.{IsDeployed, IsBetween}
@@ -49,11 +49,27 @@ at_most-both a b (inr h) (inr k) = absurd (not_below (slice_cmp nat_cmp b a) k (
 pub below-apart : (a b : List ℕ) → IsBelow a b → a ≢ b
 below-apart a b h e = let k : IsBelow b a = subst (λ x. slice_cmp nat_cmp x a ≡ Less) e (subst (λ x. slice_cmp nat_cmp a x ≡ Less) (sym e) h) in not_below (slice_cmp nat_cmp b a) k (sym (nat_list_cmp_total.antisymm a b) ∙ h)
 
+pub not_both_below : (a b : List ℕ) → IsBelow a b → IsBelow b a → ⊥
+not_both_below a b h k = not_below (slice_cmp nat_cmp b a) k (sym (nat_list_cmp_total.antisymm a b) ∙ h)
+
 -- what stands in front of an item of a sorted list is below it
 pub sorted-front : (xs : List (List ℕ)) (y : List ℕ) (ys : List (List ℕ)) → IsStrictlySortedBy (slice_cmp nat_cmp) (xs ++ y ∷ ys) → AllByRecursion (λ x. IsBelow x y) xs
 unfolding IsStrictlySortedBy
 sorted-front [] y ys s = tt
 sorted-front (x ∷ xs) y ys s = ((all_right (λ z. slice_cmp nat_cmp x z ≡ Less) xs (y ∷ ys) s.0).0, sorted-front xs y ys s.1)
+
+pub sorted-back : (xs : List (List ℕ)) (y : List ℕ) (ys : List (List ℕ)) → IsStrictlySortedBy (slice_cmp nat_cmp) (xs ++ y ∷ ys) → AllByRecursion (λ x. IsBelow y x) ys
+unfolding IsStrictlySortedBy
+sorted-back [] y ys s = s.0
+sorted-back (x ∷ xs) y ys s = sorted-back xs y ys s.1
+
+-- an item of a list stands in front of a seam, at it or behind it
+pub at_seam : {X : Type 0} (xs : List X) (y : X) (ys : List X) (x : X) → Contains (xs ++ y ∷ ys) x → Contains xs x ⊎ (x ≡ y) ⊎ Contains ys x
+at_seam [] y ys x c = inr (contains_cases y x ys c)
+at_seam (z ∷ zs) y ys x c = elim (contains_cases z x (zs ++ y ∷ ys) c) [
+  | inl e ↦ inl (subst (λ v. Contains (z ∷ zs) v) (sym e) (contains_here z zs))
+  | inr there ↦ elim (at_seam zs y ys x there) [ inl l ↦ inl (contains_there z x zs l) | inr r ↦ inr r ]
+]
 
 -- Places
 
@@ -78,9 +94,6 @@ pub record Linked (d : Disk) (done : List Win) (e : Disk) : Type 0 where
 
 pub between_start : (d : Disk) → IsBetween d d
 between_start d = record { held = λ q v h. inl h; folders = refl; bytes = refl; firm = refl }
-
-pub linked_none : (d : Disk) → Linked d [] d
-linked_none d = record { here = tt; others = λ q h. (refl, refl); between = between_start d }
 
 -- the next of the wins, on the disk after those before it
 module _ (d : Disk) (done : List Win) (w : Win) (rest : List Win) (wins : AreWins d (done ++ w ∷ rest)) (free : AreFree d (done ++ w ∷ rest)) (flat : AreFlat (done ++ w ∷ rest)) where

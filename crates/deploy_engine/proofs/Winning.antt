@@ -21,9 +21,9 @@ use Rattle.tree_fs.specs.Places.{staged_spot, game_spot}
 use Rattle.deploy_engine.specs.declared.winners.Win.{Win}
 use Rattle.rel_paths.specs.Names.{IsUserPath}
 use Rattle.tree_fs.proofs.Lists.{all_more, all_right, all_item, contains_here, contains_there, contains_none, contains_cases}
-use Rattle.deploy_engine.specs.declared.staged.FlatMod.{FlatMod}
+use Rattle.stage_scan.specs.declared.scan.Scan.{Scan}
 use Rattle.deploy_engine.specs.Wins.{has_file, IsLastWith, IsLastIndex, IsWinOf}
-use Rattle.deploy_engine.specs.Flat.{HasUserPaths}
+use Rattle.deploy_engine.specs.Looks.{HasUserPaths}
 
 pub bytes_eq-turned : (a b : List ℕ) → bytes_eq a b ≡ bytes_eq b a
 bytes_eq-turned a b = same_from_decides {P = a ≡ b} _ _ (bytes_eq-Decides a b) (Decides-like _ sym sym (bytes_eq-Decides b a))
@@ -49,7 +49,7 @@ appended [] x ys y = refl
 appended (z ∷ zs) x ys y = ap (λ l. z ∷ l) (appended zs x ys y)
 
 -- one mod more, which wins its paths
-pub last_more : (mods : List FlatMod) (m : FlatMod) (path : List ℕ) (found : Option ℕ) → IsLastIndex mods path found
+pub last_more : (mods : List Scan) (m : Scan) (path : List ℕ) (found : Option ℕ) → IsLastIndex mods path found
     → IsLastIndex (mods ++ m ∷ []) path (cond (has_file path m) (Some (length mods)) found)
 last_more mods m path found last = by_test (has_file path m) refl found last
   where
@@ -87,17 +87,17 @@ any_from_contains path (f ∷ fs) c = elim (contains_cases f path fs c) [
     or_right false h = h
 
 -- the winner, by its index
-module _ (mods : List FlatMod) (path : List ℕ) (count : ℕ) (last : IsLastWith mods path count) where
+module _ (mods : List Scan) (path : List ℕ) (count : ℕ) (last : IsLastWith mods path count) where
   pub last_below : count < length mods
-  last_below = let n = ap (λ (l : List FlatMod). length l) last.here in let k = last.counts in omega (arith, n, k, length-append last.front (last.winner ∷ last.back))
+  last_below = let n = ap (λ (l : List Scan). length l) last.here in let k = last.counts in omega (arith, n, k, length-append last.front (last.winner ∷ last.back))
 
-  pub last_item : (m : FlatMod) → m ≡ get_or mods count m → m ≡ last.winner
+  pub last_item : (m : Scan) → m ≡ get_or mods count m → m ≡ last.winner
   last_item m is = is ∙ (λ i. get_or (last.here i) (last.counts i) m) ∙ get_or-append_seam last.front last.winner last.back m
 
   pub last_user : AllByRecursion HasUserPaths mods → IsUserPath path
   last_user all =
       let winner = (all_right HasUserPaths last.front (last.winner ∷ last.back) (subst (AllByRecursion HasUserPaths) last.here all)).0 in
-      all_item IsUserPath last.winner.files.items path winner.files (contains_from_any path last.winner.files.items last.has)
+      all_item IsUserPath last.winner.files.items path winner (contains_from_any path last.winner.files.items last.has)
 
 -- one path more, of those that are left
 pub more_paths : (wins : List Win) (w : Win) (key : List ℕ) (index : ℕ) (rest : List (List ℕ × ℕ)) (all : List (List ℕ)) → w.path ≡ key
@@ -108,20 +108,20 @@ more_paths wins w key index rest all is so_far =
     ∙ ap (λ p. map (λ w. w.path) wins ++ p ∷ map (λ e. e.0) rest) is
     ∙ so_far
 
-pub win_of : (mods : List FlatMod) (w : Win) (key : List ℕ) (index : ℕ) (m : FlatMod) → w.path ≡ key → IsLastWith mods key index → m ≡ get_or mods index m
-    → spot_of w.from ≡ staged_spot m.id key → spot_of w.to ≡ game_spot key → IsWinOf mods w
+pub win_of : (mods : List Scan) (w : Win) (key : List ℕ) (index : ℕ) (m : Scan) → w.path ≡ key → IsLastWith mods key index → m ≡ get_or mods index m
+    → spot_of w.from ≡ staged_spot m.mod_id key → spot_of w.to ≡ game_spot key → IsWinOf mods w
 win_of mods w key index m is last item from to =
     let here : IsLastWith mods w.path index = subst (λ p. IsLastWith mods p index) (sym is) last in
     let winner = last_item mods w.path index here m item in
     record {
       count = index;
       last = here;
-      from = from ∙ (λ i. staged_spot (winner i).id (sym is i));
+      from = from ∙ (λ i. staged_spot (winner i).mod_id (sym is i));
       to = to ∙ ap game_spot (sym is);
     }
 
 -- a path that no mod has, or that is a key
-pub key_or_none : (mods : List FlatMod) (winners : BTreeMap (List ℕ) ℕ) (path : List ℕ) → IsLastIndex mods path (get (slice_cmp nat_cmp) winners path)
+pub key_or_none : (mods : List Scan) (winners : BTreeMap (List ℕ) ℕ) (path : List ℕ) → IsLastIndex mods path (get (slice_cmp nat_cmp) winners path)
     → AllByRecursion (λ m. has_file path m ≡ false) mods ⊎ Contains (map (λ e. e.0) winners.entries) path
 key_or_none mods winners path last = by_found (get (slice_cmp nat_cmp) winners path) refl last
   where

@@ -34,17 +34,17 @@ FitsWords Changes words = ⊥
 FitsWords RecoverFirst words = ⊥
 FitsWords SourceFault words = ⊥
 
--- what was done and why, where the answer is Ok, Usage or Refused
-abbrev pub Did : Answer → List (List ℕ) → Story → Story → Type 0
-Did Ok words old new = IsDeployForm words × NoRefusal (disk_of old) × IsDeployed (disk_of old) (disk_of new)
-Did Usage words old new = (IsDeployForm words → ⊥) × (new ≡ old)
-Did (Refused refusal) words old new = IsDeployForm words × IsFirstRefusal (disk_of old) refusal × (new ≡ old)
-Did Changes words old new = ⊥
-Did RecoverFirst words old new = ⊥
-Did TreeFault words old new = ⊥
-Did SourceFault words old new = ⊥
-Did SinkFault words old new = ⊥
-Did Memory words old new = ⊥
+-- what was done and why, where the answer is Ok, Usage or Refused and the mods may have so many entries
+abbrev pub Did : Answer → List (List ℕ) → ℕ → Story → Story → Type 0
+Did Ok words most old new = IsDeployForm words × NoRefusal (disk_of old) most × IsDeployed (disk_of old) (disk_of new)
+Did Usage words most old new = (IsDeployForm words → ⊥) × (new ≡ old)
+Did (Refused refusal) words most old new = IsDeployForm words × IsFirstRefusal (disk_of old) most refusal × (new ≡ old)
+Did Changes words most old new = ⊥
+Did RecoverFirst words most old new = ⊥
+Did TreeFault words most old new = ⊥
+Did SourceFault words most old new = ⊥
+Did SinkFault words most old new = ⊥
+Did Memory words most old new = ⊥
 
 -- the line that an answer prints
 abbrev pub IsLineOf : Answer → Disk → List ℕ → Type 0
@@ -59,9 +59,9 @@ IsLineOf SinkFault d line = ⊥
 IsLineOf Memory d line = ⊥
 
 -- what a fault of the sink leaves: the command's work is done, and a prefix of its line is written
-pub record IsCutOff (words : List (List ℕ)) (old new : Story) (written_before written_now : List ℕ) : Type 0 where
+pub record IsCutOff (words : List (List ℕ)) (most : ℕ) (old new : Story) (written_before written_now : List ℕ) : Type 0 where
   pub answer : Answer
   pub line : List ℕ
-  pub did : Did answer words old new
+  pub did : Did answer words most old new
   pub is_line : IsLineOf answer (disk_of old) line
   pub prefix : AppendsPrefix written_before written_now line

@@ -22,17 +22,17 @@ line_of NoCommand = usage_line
 line_of (Deployed count) = deployed_line count
 line_of (Turned refusal) = refusal_line refusal
 
--- what a deployment did
-abbrev pub IsDone : Done → Story → Story → Type 0
-IsDone NoCommand old new = ⊥
-IsDone (Deployed count) old new = NoRefusal (disk_of old) × IsDeployed (disk_of old) (disk_of new) × CountsProvided (disk_of old) count
-IsDone (Turned refusal) old new = IsFirstRefusal (disk_of old) refusal × (new ≡ old)
+-- what a deployment of mods that may have so many entries did
+abbrev pub IsDone : ℕ → Done → Story → Story → Type 0
+IsDone most NoCommand old new = ⊥
+IsDone most (Deployed count) old new = NoRefusal (disk_of old) most × IsDeployed (disk_of old) (disk_of new) × CountsProvided (disk_of old) count
+IsDone most (Turned refusal) old new = IsFirstRefusal (disk_of old) most refusal × (new ≡ old)
 
 -- what a command did
-abbrev pub IsCarriedOut : Done → Story → Story → Type 0
-IsCarriedOut NoCommand old new = new ≡ old
-IsCarriedOut (Deployed count) old new = IsDone (Deployed count) old new
-IsCarriedOut (Turned refusal) old new = IsDone (Turned refusal) old new
+abbrev pub IsCarriedOut : ℕ → Done → Story → Story → Type 0
+IsCarriedOut most NoCommand old new = new ≡ old
+IsCarriedOut most (Deployed count) old new = IsDone most (Deployed count) old new
+IsCarriedOut most (Turned refusal) old new = IsDone most (Turned refusal) old new
 
 -- whether the words were a command's
 abbrev pub SuitsWords : Done → List (List ℕ) → Type 0

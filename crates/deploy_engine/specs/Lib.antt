@@ -1,11 +1,12 @@
 pub mod Statuses
 pub mod Words
 pub mod Mods
+pub mod Scans
 pub mod Refusals
 pub mod Deployed
 pub mod Lines
 pub mod Answers
-pub mod Flat
+pub mod Staged
 pub mod Looks
 pub mod Wins
 pub mod Decisions

@@ -1,37 +1,42 @@
-use Rattle.std.specs.Prelude.{◌≡◌, ℕ, true, false, List, map}
-use Rattle.std.specs.List.{AllByRecursion, Contains}
-use Rattle.std.specs.List.Sorted.{IsStrictlySortedBy}
-use Rattle.std.specs.Ordering.{nat_cmp}
-use Rattle.std.specs.Cmp.Lexicographic.{slice_cmp}
-use Rattle.tree_fs.specs.declared.name.Entry.{Entry}
+use Rattle.std.specs.Prelude.{◌≡◌, ℕ, ◌+◌, List, map}
+use Rattle.std.specs.List.{AllByRecursion}
+use Rattle.rel_paths.specs.Names.{IsUserPath}
 use Rattle.tree_fs.specs.Disk.{Disk}
-use Rattle.deploy_engine.specs.declared.staged.FlatMod.{FlatMod}
-use Rattle.deploy_engine.specs.declared.staged.Looked.{Looked}
-use Rattle.deploy_engine.specs.declared.staged.Looked.TheVariants.{NoMod, Unusable, Mod}
-use Rattle.deploy_engine.specs.Mods.{IsMod}
-use Rattle.deploy_engine.specs.Refusals.{HasUnusable}
-use Rattle.deploy_engine.specs.Flat.{HoldsFlat, HasUserPaths, is_mod_entry}
+use Rattle.stage_scan.specs.declared.scan.Scan.{Scan}
+use Rattle.stage_scan.specs.Walks.{IsScan, IsRefused}
+use Rattle.deploy_engine.specs.declared.refusal.ScanRefusal.{ScanRefusal}
+use Rattle.deploy_engine.specs.Mods.{ListsMods}
+use Rattle.deploy_engine.specs.Scans.{CountTogether, IsScanned, fault_of, CarriesIdOrLimit}
 
--- what a look into a mod's folder tells
-abbrev pub IsLookedInto : Disk → List ℕ → Looked → Type 0
-IsLookedInto d id NoMod = ⊥
-IsLookedInto d id Unusable = HasUnusable d
-IsLookedInto d id (Mod m) = (m.id ≡ id) × HoldsFlat d m
+-- why a mod isn't scanned, where so many entries of the limit are left
+pub record IsTurned (d : Disk) (id : List ℕ) (most left : ℕ) (refusal : ScanRefusal) : Type 0 where
+  pub fault : IsRefused d id left (fault_of refusal)
+  pub carries : CarriesIdOrLimit id most refusal
 
--- what a look at an entry of `stage` tells
-abbrev pub IsLookedAt : Disk → Entry → Looked → Type 0
-IsLookedAt d e NoMod = is_mod_entry e ≡ false
-IsLookedAt d e Unusable = HasUnusable d
-IsLookedAt d e (Mod m) = (is_mod_entry e ≡ true) × (m.id ≡ e.name) × HoldsFlat d m
+abbrev pub ids_of : List Scan → List (List ℕ)
+ids_of scans = map (λ s. s.mod_id) scans
 
--- a mod that was looked at has user paths
-abbrev pub LookedHasUserPaths : Looked → Type 0
-LookedHasUserPaths NoMod = Unit {0}
-LookedHasUserPaths Unusable = Unit {0}
-LookedHasUserPaths (Mod m) = HasUserPaths m
+abbrev pub IsScanOfMod : Disk → Scan → Type 0
+IsScanOfMod d scan = IsScan d scan.mod_id scan
 
--- the mods of a disk, in byte order of their ids
-pub record AreMods (d : Disk) (mods : List FlatMod) : Type 0 where
-  pub each : AllByRecursion (HoldsFlat d) mods
-  pub order : IsStrictlySortedBy (slice_cmp nat_cmp) (map (λ m. m.id) mods)
-  pub whole : (id : List ℕ) → IsMod d id → Contains (map (λ m. m.id) mods) id
+-- the files of a scan have user paths
+abbrev pub HasUserPaths : Scan → Type 0
+HasUserPaths scan = AllByRecursion IsUserPath scan.files.items
+
+-- these mods are scanned, and so much of the limit is left
+pub record AreScansOf (d : Disk) (ids : List (List ℕ)) (most left : ℕ) (scans : List Scan) : Type 0 where
+  pub ids_are : ids_of scans ≡ ids
+  pub each : AllByRecursion (IsScanOfMod d) scans
+  pub total : ℕ
+  pub counts : CountTogether d ids total
+  pub rest : total + left ≡ most
+
+-- the scans of the mods of a disk, in byte order of their ids
+pub record AreScans (d : Disk) (scans : List Scan) : Type 0 where
+  pub mods : ListsMods d (ids_of scans)
+  pub each : AllByRecursion (IsScanOfMod d) scans
+
+-- all mods are scanned
+pub record IsAllScanned (d : Disk) (most : ℕ) (scans : List Scan) : Type 0 where
+  pub scanned : IsScanned d most
+  pub scans_of : AreScans d scans

@@ -1,5 +1,5 @@
 use Rattle.std.specs.Prelude.{◌≡◌, ◌⊎◌, ℕ, List, length}
-use Rattle.std.specs.List.{Contains}
+use Rattle.std.specs.List.{AllByRecursion, Contains}
 use Rattle.std.specs.List.Sorted.{IsStrictlySortedBy}
 use Rattle.std.specs.Ordering.{nat_cmp}
 use Rattle.std.specs.Cmp.Lexicographic.{slice_cmp}
@@ -20,6 +20,19 @@ IsAtMost a b = (a ≡ b) ⊎ IsBelow a b
 pub record IsMod (d : Disk) (id : List ℕ) : Type 0 where
   pub named : IsModId id
   pub folder : kind_of d (mod_spot id) ≡ Folder
+
+-- the mods, each once, in byte order
+pub record ListsMods (d : Disk) (ids : List (List ℕ)) : Type 0 where
+  pub order : IsStrictlySortedBy (slice_cmp nat_cmp) ids
+  pub each : AllByRecursion (IsMod d) ids
+  pub whole : (id : List ℕ) → IsMod d id → Contains ids id
+
+-- the mods below an id, each once, in byte order
+pub record ListsModsBelow (d : Disk) (id : List ℕ) (ids : List (List ℕ)) : Type 0 where
+  pub order : IsStrictlySortedBy (slice_cmp nat_cmp) ids
+  pub each : AllByRecursion (IsMod d) ids
+  pub below : AllByRecursion (λ other. IsBelow other id) ids
+  pub whole : (other : List ℕ) → IsMod d other → IsBelow other id → Contains ids other
 
 -- the mod has a file for the path
 pub record Provides (d : Disk) (id path : List ℕ) : Type 0 where

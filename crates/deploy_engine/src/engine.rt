@@ -1,5 +1,5 @@
 // One command.
-ghost use Rattle.std.specs.Prelude.{◌≡◌, ◌≢◌, ◌⊎◌, ◌++◌, ◌≤◌, ℕ, List, map, IfOk, OnErr};
+ghost use Rattle.std.specs.Prelude.{◌≡◌, ◌≢◌, ◌⊎◌, ◌++◌, ◌≤◌, ℕ, List, map, IfOk, OnOk, OnErr};
 ghost use Rattle.std.specs.String.{string_bytes};
 ghost use Rattle.fault_count.specs.Rose.{Rose};
 ghost use Rattle.tree_fs.specs.Story.{Along, disk_of};
@@ -35,31 +35,37 @@ enum Done {
     Turned(Refusal),
 }
 
-fn link<T: Tree>(tree: &mut T, wins: &[Win]) -> Result<Done, TreeError>
+// Links the winners' files, and counts them.
+fn link<T: Tree>(tree: &mut T, wins: &[Win]) -> Result<u64, TreeError>
     requires { T.tells → CanLinkAll (disk_of (T.story tree.old)) wins.now }
-    ensures done { T.tells → IfOk result (λ done. IsDone done (T.story tree.old) (T.story tree.new)) }
+    ensures linked { T.tells → OnOk result (IsDeployed (disk_of (T.story tree.old)) (disk_of (T.story tree.new))) }
+    ensures count { T.tells → IfOk result (CountsProvided (disk_of (T.story tree.old))) }
     ensures stops { T.tells → Along (IsBetween (disk_of (T.story tree.old))) (T.story tree.old) (T.story tree.new) }
-    ensures suits { IfOk result (λ done. (words : List (List ℕ)) → IsDeployForm words → SuitsWords done words) }
     ensures cause { HasCause (T.faults tree.old) (T.faults tree.new) result }
 {
     link_wins(tree, wins)?;
-    Ok(Done::Deployed(wins.len() as u64))
+    Ok(wins.len() as u64)
 }
 
-fn deploy<T: Tree>(alloc: Global, tree: &mut T) -> Result<Done, TreeError>
-    ensures done { T.tells → IfOk result (λ done. IsDone done (T.story tree.old) (T.story tree.new)) }
+fn deploy<T: Tree>(alloc: Global, tree: &mut T, most: u32) -> Result<Done, TreeError>
+    ensures done { T.tells → IfOk result (λ done. IsDone most done (T.story tree.old) (T.story tree.new)) }
     ensures stops { T.tells → Along (IsBetween (disk_of (T.story tree.old))) (T.story tree.old) (T.story tree.new) }
     ensures suits { IfOk result (λ done. (words : List (List ℕ)) → IsDeployForm words → SuitsWords done words) }
     ensures cause { HasCause (T.faults tree.old) (T.faults tree.new) result }
 {
-    match decide(alloc, tree)? {
+    match decide(alloc, tree, most)? {
         Decision::Refuse(refusal) => Ok(Done::Turned(refusal)),
-        Decision::Link(wins) => link(tree, &wins),
+        Decision::Link(wins) => Ok(Done::Deployed(link(tree, &wins)?)),
     }
 }
 
-fn carry_out<T: Tree>(alloc: Global, words: &[&str], tree: &mut T) -> Result<Done, TreeError>
-    ensures done { T.tells → IfOk result (λ done. IsCarriedOut done (T.story tree.old) (T.story tree.new)) }
+fn carry_out<T: Tree>(
+    alloc: Global,
+    words: &[&str],
+    limits: &Limits,
+    tree: &mut T,
+) -> Result<Done, TreeError>
+    ensures done { T.tells → IfOk result (λ done. IsCarriedOut limits.now.entries done (T.story tree.old) (T.story tree.new)) }
     ensures stops { T.tells → Along (IsBetween (disk_of (T.story tree.old))) (T.story tree.old) (T.story tree.new) }
     ensures suits { IfOk result (λ done. SuitsWords done (map (λ w. w.now) words.now)) }
     ensures fault { OnErr result (IsDeployForm (map (λ w. w.now) words.now)) }
@@ -68,7 +74,7 @@ fn carry_out<T: Tree>(alloc: Global, words: &[&str], tree: &mut T) -> Result<Don
     if !is_deploy(words) {
         return Ok(Done::NoCommand);
     }
-    deploy(alloc, tree)
+    deploy(alloc, tree, limits.entries)
 }
 
 fn text_of(alloc: Global, done: &Done) -> Result<String, AllocError>
@@ -113,15 +119,15 @@ fn speak<K: Sink>(alloc: Global, done: Done, sink: &mut K) -> Answer
 ///
 /// `deploy` links the winner's file of each path that a mod provides into the game folder. The
 /// mods are the folders of `stage` whose names are mods' ids; of the mods that have a path the
-/// last in byte order wins it. Every other list of words is `Usage`.
+/// last in byte order wins it. All mods together may have `limits.entries` files and folders; the
+/// other limits aren't looked at, nor is the source. Every other list of words is `Usage`.
 ///
 /// The line is written last. After `SinkFault` the work is done, and a prefix of the line is
-/// written. After `TreeFault` or `Memory` some links may be there. Neither the limits nor the
-/// source are looked at.
+/// written. After `TreeFault` or `Memory` some links may be there.
 pub fn run<T: Tree, S: Source, K: Sink>(
     alloc: Global,
     words: &[&str],
-    _limits: &Limits,
+    limits: &Limits,
     tree: &mut T,
     source: &mut S,
     sink: &mut K,
@@ -132,11 +138,11 @@ pub fn run<T: Tree, S: Source, K: Sink>(
 
     // What was done, and why.
     ensures deployed { T.tells → result ≡ Answer.Ok → IsDeployed (disk_of (T.story tree.old)) (disk_of (T.story tree.new)) }
-    ensures not_refused { T.tells → result ≡ Answer.Ok → NoRefusal (disk_of (T.story tree.old)) }
-    ensures refused { T.tells → (refusal : _) → result ≡ Answer.Refused refusal → IsFirstRefusal (disk_of (T.story tree.old)) refusal }
+    ensures not_refused { T.tells → result ≡ Answer.Ok → NoRefusal (disk_of (T.story tree.old)) limits.now.entries }
+    ensures refused { T.tells → (refusal : _) → result ≡ Answer.Refused refusal → IsFirstRefusal (disk_of (T.story tree.old)) limits.now.entries refusal }
     ensures refused_adds_nothing { T.tells → (refusal : _) → result ≡ Answer.Refused refusal → T.story tree.new ≡ T.story tree.old }
     ensures usage_adds_nothing { T.tells → result ≡ Answer.Usage → T.story tree.new ≡ T.story tree.old }
-    ensures complete { T.tells → IsDeployForm (map (λ w. w.now) words.now) → NoRefusal (disk_of (T.story tree.old)) → (Rose (T.faults tree.old) (T.faults tree.new) → ⊥) → (Rose (K.faults sink.old) (K.faults sink.new) → ⊥) → (result ≡ Answer.Ok) ⊎ (result ≡ Answer.Memory) }
+    ensures complete { T.tells → IsDeployForm (map (λ w. w.now) words.now) → NoRefusal (disk_of (T.story tree.old)) limits.now.entries → (Rose (T.faults tree.old) (T.faults tree.new) → ⊥) → (Rose (K.faults sink.old) (K.faults sink.new) → ⊥) → (result ≡ Answer.Ok) ⊎ (result ≡ Answer.Memory) }
 
     // A stop at any step leaves each place with what it held, or with its winner's file.
     ensures stops { T.tells → Along (IsBetween (disk_of (T.story tree.old))) (T.story tree.old) (T.story tree.new) }
@@ -150,12 +156,12 @@ pub fn run<T: Tree, S: Source, K: Sink>(
     ensures tree_fault { result ≡ Answer.TreeFault → Rose (T.faults tree.old) (T.faults tree.new) }
     ensures tree_fault_prints_nothing { result ≡ Answer.TreeFault → sink.new ≡ sink.old }
     ensures sink_fault { result ≡ Answer.SinkFault → Rose (K.faults sink.old) (K.faults sink.new) }
-    ensures sink_fault_cuts_off { T.tells → K.tells → result ≡ Answer.SinkFault → IsCutOff (map (λ w. w.now) words.now) (T.story tree.old) (T.story tree.new) (K.written sink.old) (K.written sink.new) }
-    ensures memory { T.tells → K.tells → result ≡ Answer.Memory → (sink.new ≡ sink.old) ⊎ IsCutOff (map (λ w. w.now) words.now) (T.story tree.old) (T.story tree.new) (K.written sink.old) (K.written sink.new) }
+    ensures sink_fault_cuts_off { T.tells → K.tells → result ≡ Answer.SinkFault → IsCutOff (map (λ w. w.now) words.now) limits.now.entries (T.story tree.old) (T.story tree.new) (K.written sink.old) (K.written sink.new) }
+    ensures memory { T.tells → K.tells → result ≡ Answer.Memory → (sink.new ≡ sink.old) ⊎ IsCutOff (map (λ w. w.now) words.now) limits.now.entries (T.story tree.old) (T.story tree.new) (K.written sink.old) (K.written sink.new) }
     ensures source { source.new ≡ source.old }
 {
     let _ = source;
-    match carry_out(alloc, words, tree) {
+    match carry_out(alloc, words, limits, tree) {
         Ok(done) => speak(alloc, done, sink),
         Err(TreeError::Failed) => Answer::TreeFault,
         Err(TreeError::Memory) => Answer::Memory,

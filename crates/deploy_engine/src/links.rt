@@ -1,13 +1,10 @@
 // Links the winners' files into the game folder.
 ghost use Rattle.std.specs.Prelude.{◌≡◌, IfOk, OnOk, MatchOption, None};
-ghost use Rattle.std.specs.List.{AllByRecursion};
 ghost use Rattle.tree_fs.specs.declared.name.Kind.TheVariants.{Absent};
 ghost use Rattle.tree_fs.specs.Spot.{spot_of};
 ghost use Rattle.tree_fs.specs.Disk.{kind_of};
 ghost use Rattle.tree_fs.specs.Story.{Along, disk_of};
 ghost use Rattle.tree_fs.specs.Calls.{HasCause};
-ghost use Rattle.deploy_engine.specs.Mods.{IsProvided};
-ghost use Rattle.deploy_engine.specs.Refusals.{HasNoFolder};
 ghost use Rattle.deploy_engine.specs.Deployed.{IsDeployed, IsBetween};
 ghost use Rattle.deploy_engine.specs.Wins.{AreWins, IsFirstTakenOf, AreFree, AreFlat};
 

@@ -1,5 +1,5 @@
 // Which mod wins each path.
-ghost use Rattle.std.specs.Prelude.{◌≡◌, ℕ, List, IfOk, OnOk, Some, None, if◌then◌else◌, MatchOption};
+ghost use Rattle.std.specs.Prelude.{◌≡◌, ℕ, List, IfOk, OnOk, Some, if◌then◌else◌};
 ghost use Rattle.std.specs.List.{AllByRecursion, list_any};
 ghost use Rattle.std.specs.Str.{bytes_eq};
 ghost use Rattle.std.specs.Ordering.{nat_cmp};
@@ -8,11 +8,11 @@ ghost use Rattle.std.specs.BTreeMap.{get};
 ghost use Rattle.rel_paths.specs.Names.{IsUserPath};
 ghost use Rattle.tree_fs.specs.Spot.{spot_of};
 ghost use Rattle.tree_fs.specs.Places.{staged_spot, game_spot};
-ghost use Rattle.deploy_engine.specs.Flat.{HasUserPaths};
-ghost use Rattle.deploy_engine.specs.Wins.{IsLastIndex, AreWinsOf, IsFirstWithFolder};
+ghost use Rattle.deploy_engine.specs.Looks.{HasUserPaths};
+ghost use Rattle.deploy_engine.specs.Wins.{IsLastIndex, AreWinsOf};
 
-use crate::staged::FlatMod;
 use rel_paths::{ModId, RelPath};
+use stage_scan::Scan;
 use std::alloc::{AllocError, Global};
 use std::collections::BTreeMap;
 use tree_fs::Place;
@@ -40,12 +40,12 @@ fn put_files(
 }
 
 // For each path of the mods, the index of the last mod that has it.
-fn last_with(alloc: Global, mods: &[FlatMod]) -> Result<BTreeMap<RelPath, usize>, AllocError>
-    ensures { IfOk result (λ winners. (path : List ℕ) → IsLastIndex mods.now path (get (slice_cmp nat_cmp) winners path)) }
+fn last_with(alloc: Global, scans: &[Scan]) -> Result<BTreeMap<RelPath, usize>, AllocError>
+    ensures { IfOk result (λ winners. (path : List ℕ) → IsLastIndex scans.now path (get (slice_cmp nat_cmp) winners path)) }
 {
     let mut winners = BTreeMap::new(alloc);
-    for (index, found) in mods.iter().enumerate() {
-        put_files(&mut winners, &found.files, index)?;
+    for (index, scan) in scans.iter().enumerate() {
+        put_files(&mut winners, &scan.files, index)?;
     }
     Ok(winners)
 }
@@ -64,27 +64,14 @@ fn make_win(alloc: Global, id: &ModId, path: &RelPath) -> Result<Win, AllocError
 }
 
 /// The paths of the mods, each with the last mod that has it, in byte order.
-pub(crate) fn winning_paths(alloc: Global, mods: &[FlatMod]) -> Result<Vec<Win>, AllocError>
-    requires { AllByRecursion HasUserPaths mods.now }
-    ensures { IfOk result (λ wins. AreWinsOf mods.now wins.items) }
+pub(crate) fn winning_paths(alloc: Global, scans: &[Scan]) -> Result<Vec<Win>, AllocError>
+    requires { AllByRecursion HasUserPaths scans.now }
+    ensures { IfOk result (λ wins. AreWinsOf scans.now wins.items) }
 {
-    let winners = last_with(alloc, mods)?;
+    let winners = last_with(alloc, scans)?;
     let mut wins = Vec::new(alloc);
     for (path, index) in winners.iter() {
-        wins.push(make_win(alloc, &mods[*index].id, path)?)?;
+        wins.push(make_win(alloc, &scans[*index].mod_id, path)?)?;
     }
     Ok(wins)
-}
-
-/// The first folder inside the mods.
-pub(crate) fn folder_inside(alloc: Global, mods: &[FlatMod]) -> Result<Option<Place>, AllocError>
-    requires { AllByRecursion HasUserPaths mods.now }
-    ensures { IfOk result (λ found. MatchOption found (AllByRecursion (λ m. m.folder ≡ None) mods.now) (λ place. IsFirstWithFolder mods.now (spot_of place))) }
-{
-    for found in mods {
-        if let Some(folder) = &found.folder {
-            return Ok(Some(Place::staged(alloc, &found.id, folder)?));
-        }
-    }
-    Ok(None)
 }

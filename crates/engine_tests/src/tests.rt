@@ -53,17 +53,27 @@ fn two_mods(alloc: Global) -> Result<MemTree, Fail> {
 }
 
 // The answer to the words, with what it printed put behind `printed`.
+fn say_within(
+    alloc: Global,
+    words: &[&str],
+    limits: &Limits,
+    tree: &mut MemTree,
+    printed: &mut String,
+) -> Result<Answer, Fail> {
+    let mut source = MemSource::new(Vec::new(alloc), 1, Vec::new(alloc));
+    let mut sink = MemSink::new(Vec::new(alloc));
+    let answer = run(alloc, words, limits, tree, &mut source, &mut sink);
+    printed.push_str(str::from_utf8(sink.written()).map_err(|_| "not UTF-8")?)?;
+    Ok(answer)
+}
+
 fn say(
     alloc: Global,
     words: &[&str],
     tree: &mut MemTree,
     printed: &mut String,
 ) -> Result<Answer, Fail> {
-    let mut source = MemSource::new(Vec::new(alloc), 1, Vec::new(alloc));
-    let mut sink = MemSink::new(Vec::new(alloc));
-    let answer = run(alloc, words, &Limits::usual(), tree, &mut source, &mut sink);
-    printed.push_str(str::from_utf8(sink.written()).map_err(|_| "not UTF-8")?)?;
-    Ok(answer)
+    say_within(alloc, words, &Limits::usual(), tree, printed)
 }
 
 // Whether the one link is that of `from` to `to`.
@@ -115,30 +125,116 @@ fn a_taken_path_is_refused(rt: HostRuntime) -> Result<(), Fail> {
     Ok(())
 }
 
-#[test]
-fn a_folder_in_a_mod_is_refused(rt: HostRuntime) -> Result<(), Fail> {
-    let alloc = rt.alloc();
+// A mod `a` with a file of this name.
+fn mod_with(alloc: Global, name: &str) -> Result<MemTree, Fail> {
     let mut tree = MemTree::new(alloc)?;
     add_folder(alloc, &mut tree, "stage/a")?;
-    add_folder(alloc, &mut tree, "stage/a/d")?;
+    let at = format!(in alloc; "stage/a/{name}")?;
+    add_file(alloc, &mut tree, at.as_str(), b"A")?;
+    Ok(tree)
+}
+
+// Fails unless `deploy` prints this, and a refusal adds no step.
+fn check_deploy(
+    rt: &impl Abort,
+    alloc: Global,
+    tree: &mut MemTree,
+    status: u8,
+    line: &str,
+) -> Result<(), Fail> {
     let mut printed = String::new(alloc);
-    let answer = say(alloc, &["deploy"], &mut tree, &mut printed)?;
-    assert_eq!(rt; answer.status(), 3);
-    assert_eq!(rt; printed.as_str(), "refused\t44\tFolder\tstage/a/d\n");
-    assert!(rt; tree.ops().is_empty());
+    let answer = say(alloc, &["deploy"], tree, &mut printed)?;
+    assert_eq!(rt; printed.as_str(), line);
+    assert_eq!(rt; answer.status(), status);
+    assert!(rt; status == 0 || tree.ops().is_empty());
+    Ok(())
+}
+
+fn letters(alloc: Global, count: usize) -> Result<String, Fail> {
+    let mut text = String::new(alloc);
+    for _ in 0..count {
+        text.push('n')?;
+    }
+    Ok(text)
+}
+
+#[test]
+fn the_longest_name_is_deployed(rt: HostRuntime) -> Result<(), Fail> {
+    let alloc = rt.alloc();
+    let name = letters(alloc, 240)?;
+    let mut tree = mod_with(alloc, name.as_str())?;
+    check_deploy(&rt, alloc, &mut tree, 0, "deployed 1, set 1, saved 0\n")?;
+    let from = format!(in alloc; "stage/a/{name}")?;
+    let to = format!(in alloc; "game/{name}")?;
+    assert!(rt; links_only(alloc, &tree, from.as_str(), to.as_str())?);
     Ok(())
 }
 
 #[test]
-fn a_control_place_that_is_there_is_refused(rt: HostRuntime) -> Result<(), Fail> {
+fn entries_that_cant_be_deployed_are_refused(rt: HostRuntime) -> Result<(), Fail> {
+    let alloc = rt.alloc();
+    let long = letters(alloc, 241)?;
+    let bad = format!(in alloc; "refused\t21\tBadEntry\tstage/a\t{long}\n")?;
+    let rows = [
+        (long.as_str(), bad.as_str()),
+        (
+            "x.vortex_backup",
+            "refused\t22\tReserved\tstage/a/x.vortex_backup\n",
+        ),
+        (
+            "vortex.deployment.json",
+            "refused\t22\tReserved\tstage/a/vortex.deployment.json\n",
+        ),
+    ];
+    for (name, line) in &rows {
+        let mut tree = mod_with(alloc, name)?;
+        check_deploy(&rt, alloc, &mut tree, 3, line)?;
+    }
+    Ok(())
+}
+
+#[test]
+fn only_folders_with_files_are_refused(rt: HostRuntime) -> Result<(), Fail> {
     let alloc = rt.alloc();
     let mut tree = MemTree::new(alloc)?;
+    add_folder(alloc, &mut tree, "stage/a")?;
+    add_folder(alloc, &mut tree, "stage/a/d")?;
+    add_folder(alloc, &mut tree, "stage/a/d/e")?;
+    check_deploy(&rt, alloc, &mut tree, 0, "deployed 0, set 0, saved 0\n")?;
+
+    let mut tree = mod_with(alloc, "x")?;
+    add_folder(alloc, &mut tree, "stage/a/d")?;
+    add_folder(alloc, &mut tree, "stage/a/d/e")?;
+    add_file(alloc, &mut tree, "stage/a/d/e/y", b"Y")?;
+    check_deploy(&rt, alloc, &mut tree, 3, "refused\t44\tFolder\tstage/a/d\n")?;
+    Ok(())
+}
+
+#[test]
+fn the_limit_of_entries_is_that_of_all_mods(rt: HostRuntime) -> Result<(), Fail> {
+    let alloc = rt.alloc();
+    let rows = [
+        (3, "deployed 1, set 1, saved 0\n"),
+        (2, "refused\t23\tTooManyEntries\t2\n"),
+    ];
+    for (entries, line) in &rows {
+        let mut tree = two_mods(alloc)?;
+        add_folder(alloc, &mut tree, "stage/b/d")?;
+        let mut limits = Limits::usual();
+        limits.entries = *entries;
+        let mut printed = String::new(alloc);
+        say_within(alloc, &["deploy"], &limits, &mut tree, &mut printed)?;
+        assert_eq!(rt; printed.as_str(), *line);
+    }
+    Ok(())
+}
+
+#[test]
+fn a_control_place_is_refused_before_any_entry(rt: HostRuntime) -> Result<(), Fail> {
+    let alloc = rt.alloc();
+    let mut tree = mod_with(alloc, "x.vortex_backup")?;
     add_file(alloc, &mut tree, "keep/profile.toml", b"")?;
-    let mut printed = String::new(alloc);
-    let answer = say(alloc, &["deploy"], &mut tree, &mut printed)?;
-    assert_eq!(rt; answer.status(), 3);
-    assert_eq!(rt; printed.as_str(), "refused\t45\tNotBuilt\n");
-    assert!(rt; tree.ops().is_empty());
+    check_deploy(&rt, alloc, &mut tree, 3, "refused\t45\tNotBuilt\n")?;
     Ok(())
 }
 

@@ -1,4 +1,4 @@
-use Rattle.std.proofs.Common.{◌≡◌, ◌≢◌, ℕ, true, false, List, [], ◌∷◌, ◌++◌, refl, sym, ap, ◌∙◌}
+use Rattle.std.proofs.Common.{◌≡◌, ◌≢◌, ℕ, false, List, [], ◌∷◌, ◌++◌, refl, ap, ◌∙◌}
 use Rattle.io_edge.specs.Lines.{has_lf, through_line}
 use Rattle.io_edge.specs.Pulls.{Pulled, PullsForALine}
 use Rattle.io_edge.specs.Pulls.Pulled.{no_pull, one_more}

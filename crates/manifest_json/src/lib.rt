@@ -6,3 +6,6 @@ mod spot;
 
 pub use digest::FileDigest;
 pub use spot::Spot;
+
+#[cfg(test)]
+mod tests;

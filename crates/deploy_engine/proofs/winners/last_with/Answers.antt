@@ -11,11 +11,11 @@ use Rattle.deploy_engine.proofs.winners.last_with.Goals as goal
 
 pub loop-index-preserved : goal.loop-index-preserved
 loop-index-preserved c = λ path.
-    let m = c.index-mods-index.result in
-    let so_far = take c.loop-index.index c.args.mods.now in
+    let m = c.index-scans-index.result in
+    let so_far = take c.loop-index.index c.args.scans.now in
     let old = get (slice_cmp nat_cmp) c.loop-index.winners path in
     let count : length so_far ≡ c.loop-index.index = simp length-take (omega arith) in
     let found : get (slice_cmp nat_cmp) c.put_files.new.winners path ≡ cond (has_file path m) (Some (length so_far)) old =
     c.in_ok-put_files.ensures path ∙ ap (λ l. cond (list_any (bytes_eq path) l) (Some c.loop-index.index) old) c.deref.ensures.value ∙ ap (λ n. cond (has_file path m) (Some n) old) (sym count) in
-    rw (one_more _ _ _ c.loop-index-test.true c.index-mods-index.is)
+    rw (one_more _ _ _ c.loop-index-test.true c.index-scans-index.is)
     (subst (IsLastIndex (so_far ++ m ∷ []) path) (sym found) (last_more so_far m path old (c.loop-index.invariant path)))

@@ -6,4 +6,4 @@ use Rattle.deploy_engine.specs.Wins.{IsLastIndex}
 use Rattle.deploy_engine.proofs.winners.last_with.Given as goal
 
 abbrev pub invariant-loop-index : goal.invariant-loop-index
-invariant-loop-index l = (path : List ℕ) → IsLastIndex (take l.index l.mods) path (get (slice_cmp nat_cmp) l.winners path)
+invariant-loop-index l = (path : List ℕ) → IsLastIndex (take l.index l.scans) path (get (slice_cmp nat_cmp) l.winners path)

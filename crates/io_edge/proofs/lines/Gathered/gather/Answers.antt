@@ -1,4 +1,4 @@
-use Rattle.std.proofs.Common.{◌∙◌, ◌++◌, [], List, ℕ, refl, sym, ap, arith, ◌≡◌, true, false}
+use Rattle.std.proofs.Common.{◌∙◌, ◌++◌, [], refl, sym, ap, arith, ◌≡◌, true, false}
 use Rattle.std.proofs.lemmas.Result.{err_from_is_err_and}
 use Rattle.io_edge.specs.Lines.{has_lf, through_line}
 use Rattle.io_edge.proofs.FirstLine.{after-none}
