@@ -1,66 +1,61 @@
 // Edits of small profiles.
-ghost use Rattle.std.specs.Prelude.{IfOk};
 ghost use Rattle.profile_edit.specs.Edits.{HasUserPath};
 
 use crate::{Edit, EditError, apply};
 use profile_toml::{Profile, RuleKind};
 use rel_paths::{ModId, RelPath};
-use std::alloc::Global;
-use std::test::Fail;
+use std::process::Abort;
 
-fn enable(alloc: Global, id: &str) -> Result<Edit, Fail>
-    ensures { IfOk result (λ edit. HasUserPath edit) }
-{
-    let id = ModId::parse(alloc, id)?;
-    Ok(Edit::Enable(id))
+fn id(rt: &(impl AllocGlobal + Abort), text: &str) -> ModId {
+    ModId::parse(rt.alloc(), text).expect(rt, "an id")
 }
 
-fn disable(alloc: Global, id: &str) -> Result<Edit, Fail>
-    ensures { IfOk result (λ edit. HasUserPath edit) }
+fn enable(rt: &(impl AllocGlobal + Abort), mod_id: &str) -> Edit
+    ensures { HasUserPath result }
 {
-    let id = ModId::parse(alloc, id)?;
-    Ok(Edit::Disable(id))
+    Edit::Enable(id(rt, mod_id))
 }
 
-fn add_rule(alloc: Global, id: &str, refers: &str) -> Result<Edit, Fail>
-    ensures { IfOk result (λ edit. HasUserPath edit) }
+fn disable(rt: &(impl AllocGlobal + Abort), mod_id: &str) -> Edit
+    ensures { HasUserPath result }
 {
-    let mod_id = ModId::parse(alloc, id)?;
-    let refers = ModId::parse(alloc, refers)?;
-    let kind = RuleKind::After;
-    Ok(Edit::AddRule {
-        mod_id,
-        kind,
-        refers,
-    })
+    Edit::Disable(id(rt, mod_id))
 }
 
-fn drop_rule(alloc: Global, id: &str, refers: &str) -> Result<Edit, Fail>
-    ensures { IfOk result (λ edit. HasUserPath edit) }
+fn add_rule(rt: &(impl AllocGlobal + Abort), mod_id: &str, refers: &str) -> Edit
+    ensures { HasUserPath result }
 {
-    let mod_id = ModId::parse(alloc, id)?;
-    let refers = ModId::parse(alloc, refers)?;
-    let kind = RuleKind::After;
-    Ok(Edit::DropRule {
-        mod_id,
-        kind,
-        refers,
-    })
+    Edit::AddRule {
+        mod_id: id(rt, mod_id),
+        kind: RuleKind::After,
+        refers: id(rt, refers),
+    }
 }
 
-fn set_override(alloc: Global, path: &str, id: &str) -> Result<Edit, Fail>
-    ensures { IfOk result (λ edit. HasUserPath edit) }
+fn drop_rule(rt: &(impl AllocGlobal + Abort), mod_id: &str, refers: &str) -> Edit
+    ensures { HasUserPath result }
 {
-    let path = RelPath::parse(alloc, path)?;
-    let mod_id = ModId::parse(alloc, id)?;
-    Ok(Edit::SetOverride { path, mod_id })
+    Edit::DropRule {
+        mod_id: id(rt, mod_id),
+        kind: RuleKind::After,
+        refers: id(rt, refers),
+    }
 }
 
-fn drop_override(alloc: Global, path: &str) -> Result<Edit, Fail>
-    ensures { IfOk result (λ edit. HasUserPath edit) }
+fn set_override(rt: &(impl AllocGlobal + Abort), path: &str, mod_id: &str) -> Edit
+    ensures { HasUserPath result }
 {
-    let path = RelPath::parse(alloc, path)?;
-    Ok(Edit::DropOverride(path))
+    let path = RelPath::parse(rt.alloc(), path).expect(rt, "a path");
+    Edit::SetOverride {
+        path,
+        mod_id: id(rt, mod_id),
+    }
+}
+
+fn drop_override(rt: &(impl AllocGlobal + Abort), path: &str) -> Edit
+    ensures { HasUserPath result }
+{
+    Edit::DropOverride(RelPath::parse(rt.alloc(), path).expect(rt, "a path"))
 }
 
 // What is told of an edit: whether the profile changed, or the refusal with its number or its text's length.
@@ -77,65 +72,60 @@ fn told(outcome: Result<bool, EditError>) -> (&'static str, u64) {
     }
 }
 
+// Fails unless the edit has this outcome.
+fn expect(
+    rt: &(impl AllocGlobal + Abort),
+    profile: &mut Profile,
+    edit: &Edit,
+    most_mods: u32,
+    wanted: (&str, u64),
+)
+    requires { HasUserPath edit.now }
+{
+    let outcome = told(apply(rt.alloc(), profile, edit, most_mods));
+    assert_eq!(rt; outcome, wanted);
+}
+
 // A profile with the mod a.
-fn profile_with_a(alloc: Global) -> Result<Profile, Fail> {
-    let mut profile = Profile::plain(alloc);
-    let edit = enable(alloc, "a")?;
-    apply(alloc, &mut profile, &edit, 2000)?;
-    Ok(profile)
+fn profile_with_a(rt: &(impl AllocGlobal + Abort)) -> Profile {
+    let mut profile = Profile::plain(rt.alloc());
+    expect(rt, &mut profile, &enable(rt, "a"), 2000, ("changed", 0));
+    profile
 }
 
 #[test]
-fn a_rule_is_added_once_and_dropped_once(rt: HostRuntime) -> Result<(), Fail> {
-    let alloc = rt.alloc();
-    let mut profile = profile_with_a(alloc)?;
-    let edit = add_rule(alloc, "a", "b")?;
-    assert_eq!(rt; told(apply(alloc, &mut profile, &edit, 1)), ("changed", 0));
-    assert_eq!(rt;
-        told(apply(alloc, &mut profile, &edit, 1)),
-        ("same rule", 0)
-    );
-    let edit = drop_rule(alloc, "a", "b")?;
-    assert_eq!(rt; told(apply(alloc, &mut profile, &edit, 1)), ("changed", 0));
-    assert_eq!(rt; told(apply(alloc, &mut profile, &edit, 1)), ("no rule", 0));
-    Ok(())
+fn a_rule_is_added_once_and_dropped_once(rt: HostRuntime) {
+    let mut profile = profile_with_a(&rt);
+    let add = add_rule(&rt, "a", "b");
+    expect(&rt, &mut profile, &add, 1, ("changed", 0));
+    expect(&rt, &mut profile, &add, 1, ("same rule", 0));
+    let drop = drop_rule(&rt, "a", "b");
+    expect(&rt, &mut profile, &drop, 1, ("changed", 0));
+    expect(&rt, &mut profile, &drop, 1, ("no rule", 0));
 }
 
 #[test]
-fn mods_are_enabled_and_disabled_within_the_limit(rt: HostRuntime) -> Result<(), Fail> {
-    let alloc = rt.alloc();
-    let mut profile = profile_with_a(alloc)?;
-    let edit = enable(alloc, "z")?;
-    assert_eq!(rt; told(apply(alloc, &mut profile, &edit, 1)), ("too many", 2));
-    assert_eq!(rt; profile.mods().len(), 1);
-    assert_eq!(rt; told(apply(alloc, &mut profile, &edit, 2)), ("changed", 0));
-    assert_eq!(rt;
-        told(apply(alloc, &mut profile, &edit, 1)),
-        ("unchanged", 0)
-    );
-    let edit = disable(alloc, "z")?;
-    assert_eq!(rt; told(apply(alloc, &mut profile, &edit, 1)), ("changed", 0));
-    assert_eq!(rt; profile.mods().len(), 2);
-    Ok(())
+fn mods_are_enabled_and_disabled_within_the_limit(rt: HostRuntime) {
+    let mut profile = profile_with_a(&rt);
+    let on = enable(&rt, "z");
+    expect(&rt, &mut profile, &on, 1, ("too many", 2));
+    assert_eq!(&rt; profile.mods().len(), 1);
+    expect(&rt, &mut profile, &on, 2, ("changed", 0));
+    expect(&rt, &mut profile, &on, 1, ("unchanged", 0));
+    let off = disable(&rt, "z");
+    expect(&rt, &mut profile, &off, 1, ("changed", 0));
+    assert_eq!(&rt; profile.mods().len(), 2);
 }
 
 #[test]
-fn overrides_are_set_and_dropped(rt: HostRuntime) -> Result<(), Fail> {
-    let alloc = rt.alloc();
-    let mut profile = profile_with_a(alloc)?;
-    let edit = set_override(alloc, "x.txt", "other")?;
-    assert_eq!(rt; told(apply(alloc, &mut profile, &edit, 1)), ("no mod", 5));
-    let edit = set_override(alloc, "x.txt", "a")?;
-    assert_eq!(rt; told(apply(alloc, &mut profile, &edit, 1)), ("changed", 0));
-    assert_eq!(rt;
-        told(apply(alloc, &mut profile, &edit, 1)),
-        ("unchanged", 0)
-    );
-    let edit = drop_override(alloc, "x.txt")?;
-    assert_eq!(rt; told(apply(alloc, &mut profile, &edit, 1)), ("changed", 0));
-    assert_eq!(rt;
-        told(apply(alloc, &mut profile, &edit, 1)),
-        ("no override", 5)
-    );
-    Ok(())
+fn overrides_are_set_and_dropped(rt: HostRuntime) {
+    let mut profile = profile_with_a(&rt);
+    let to_other = set_override(&rt, "x.txt", "other");
+    expect(&rt, &mut profile, &to_other, 1, ("no mod", 5));
+    let to_a = set_override(&rt, "x.txt", "a");
+    expect(&rt, &mut profile, &to_a, 1, ("changed", 0));
+    expect(&rt, &mut profile, &to_a, 1, ("unchanged", 0));
+    let off = drop_override(&rt, "x.txt");
+    expect(&rt, &mut profile, &off, 1, ("changed", 0));
+    expect(&rt, &mut profile, &off, 1, ("no override", 5));
 }
