@@ -2,45 +2,46 @@
 use crate::{Graph, RuleError, check_rules, graph_of};
 use profile_toml::{ModEntry, Profile, Rule, RuleKind};
 use rel_paths::ModId;
-use std::alloc::Global;
 use std::process::Abort;
-use std::test::Fail;
+
+fn id_of(rt: &(impl AllocGlobal + Abort), text: &str) -> ModId {
+    ModId::parse(rt.alloc(), text).expect(rt, "an id")
+}
 
 fn add_rule(
-    alloc: Global,
+    rt: &(impl AllocGlobal + Abort),
     profile: &mut Profile,
     id: &str,
     kind: RuleKind,
     refers: &str,
-) -> Result<(), Fail> {
-    let id = ModId::parse(alloc, id)?;
-    let rule = Rule::plain(alloc, kind, ModId::parse(alloc, refers)?);
+) {
+    let id = id_of(rt, id);
+    let rule = Rule::plain(rt.alloc(), kind, id_of(rt, refers));
     if let Some(entry) = profile.mods.get_mut(&id) {
-        entry.rules.push(rule)?;
+        assert!(rt; entry.rules.push(rule).is_ok());
     }
-    Ok(())
 }
 
 // The profile with these mods, each enabled or not, and these rules, each of the first mod and about the second.
 fn profile_of(
-    alloc: Global,
+    rt: &(impl AllocGlobal + Abort),
     mods: &[(&str, bool)],
     rules: &[(&str, RuleKind, &str)],
-) -> Result<Profile, Fail> {
-    let mut profile = Profile::plain(alloc);
+) -> Profile {
+    let mut profile = Profile::plain(rt.alloc());
     for (id, enabled) in mods {
-        let id = ModId::parse(alloc, *id)?;
-        profile.mods.insert(id, ModEntry::plain(alloc, *enabled))?;
+        let entry = ModEntry::plain(rt.alloc(), *enabled);
+        assert!(rt; profile.mods.insert(id_of(rt, *id), entry).is_ok());
     }
     for (id, kind, refers) in rules {
-        add_rule(alloc, &mut profile, *id, *kind, *refers)?;
+        add_rule(rt, &mut profile, *id, *kind, *refers);
     }
-    Ok(profile)
+    profile
 }
 
-fn graph(alloc: Global, profile: &Profile, rt: &impl Abort) -> Result<Graph, Fail> {
+fn graph(rt: &(impl AllocGlobal + Abort), profile: &Profile) -> Graph {
     assert!(rt; profile.mods().len() < 1000);
-    Ok(graph_of(alloc, profile)?)
+    graph_of(rt.alloc(), profile).expect(rt, "memory")
 }
 
 fn is_missing(outcome: Result<(), RuleError>, from: &str, to: &str) -> bool {
@@ -58,34 +59,29 @@ fn is_conflict(outcome: Result<(), RuleError>, from: &str, to: &str) -> bool {
 }
 
 #[test]
-fn a_rule_after_leads_from_the_other_mod(rt: HostRuntime) -> Result<(), Fail> {
-    let alloc = rt.alloc();
+fn a_rule_after_leads_from_the_other_mod(rt: HostRuntime) {
     let mods = [("a", true), ("b", true)];
-    let profile = profile_of(alloc, &mods, &[("a", RuleKind::After, "b")])?;
-    let graph = graph(alloc, &profile, &rt)?;
-    assert_eq!(rt; graph.count(), 2);
-    assert_eq!(rt; graph.edges(), [(1, 0)].as_slice());
-    Ok(())
+    let profile = profile_of(&rt, &mods, &[("a", RuleKind::After, "b")]);
+    let graph = graph(&rt, &profile);
+    assert_eq!(&rt; graph.count(), 2);
+    assert_eq!(&rt; graph.edges(), [(1, 0)].as_slice());
 }
 
 #[test]
-fn edges_of_a_cycle_ascend(rt: HostRuntime) -> Result<(), Fail> {
-    let alloc = rt.alloc();
+fn edges_of_a_cycle_ascend(rt: HostRuntime) {
     let mods = [("a", true), ("b", true), ("c", true)];
     let rules = [
         ("a", RuleKind::After, "b"),
         ("b", RuleKind::After, "c"),
         ("c", RuleKind::After, "a"),
     ];
-    let profile = profile_of(alloc, &mods, &rules)?;
-    let graph = graph(alloc, &profile, &rt)?;
-    assert_eq!(rt; graph.edges(), [(0, 2), (1, 0), (2, 1)].as_slice());
-    Ok(())
+    let profile = profile_of(&rt, &mods, &rules);
+    let graph = graph(&rt, &profile);
+    assert_eq!(&rt; graph.edges(), [(0, 2), (1, 0), (2, 1)].as_slice());
 }
 
 #[test]
-fn two_rules_for_one_edge_count_once(rt: HostRuntime) -> Result<(), Fail> {
-    let alloc = rt.alloc();
+fn two_rules_for_one_edge_count_once(rt: HostRuntime) {
     let mods = [("a", true), ("off", false), ("b", true)];
     let rules = [
         ("a", RuleKind::Before, "b"),
@@ -93,41 +89,35 @@ fn two_rules_for_one_edge_count_once(rt: HostRuntime) -> Result<(), Fail> {
         ("off", RuleKind::Before, "a"),
         ("a", RuleKind::After, "off"),
     ];
-    let profile = profile_of(alloc, &mods, &rules)?;
-    let graph = graph(alloc, &profile, &rt)?;
-    assert_eq!(rt; graph.edges(), [(0, 1)].as_slice());
-    Ok(())
+    let profile = profile_of(&rt, &mods, &rules);
+    let graph = graph(&rt, &profile);
+    assert_eq!(&rt; graph.edges(), [(0, 1)].as_slice());
 }
 
 #[test]
-fn a_required_mod_has_to_be_enabled(rt: HostRuntime) -> Result<(), Fail> {
-    let alloc = rt.alloc();
+fn a_required_mod_has_to_be_enabled(rt: HostRuntime) {
     let rules = [("a", RuleKind::Requires, "b")];
-    let profile = profile_of(alloc, &[("a", true), ("b", false)], &rules)?;
-    assert!(rt; is_missing(check_rules(alloc, &profile), "a", "b"));
-    let profile = profile_of(alloc, &[("a", true), ("b", true)], &rules)?;
-    assert!(rt; check_rules(alloc, &profile).is_ok());
-    Ok(())
+    let profile = profile_of(&rt, &[("a", true), ("b", false)], &rules);
+    assert!(&rt; is_missing(check_rules(rt.alloc(), &profile), "a", "b"));
+    let profile = profile_of(&rt, &[("a", true), ("b", true)], &rules);
+    assert!(&rt; check_rules(rt.alloc(), &profile).is_ok());
 }
 
 #[test]
-fn rules_about_an_absent_mod_do_nothing(rt: HostRuntime) -> Result<(), Fail> {
-    let alloc = rt.alloc();
+fn rules_about_an_absent_mod_do_nothing(rt: HostRuntime) {
     let rules = [
         ("a", RuleKind::Before, "z"),
         ("a", RuleKind::Conflicts, "z"),
     ];
-    let profile = profile_of(alloc, &[("a", true)], &rules)?;
-    assert!(rt; check_rules(alloc, &profile).is_ok());
-    let graph = graph(alloc, &profile, &rt)?;
-    assert_eq!(rt; graph.count(), 1);
-    assert!(rt; graph.edges().is_empty());
-    Ok(())
+    let profile = profile_of(&rt, &[("a", true)], &rules);
+    assert!(&rt; check_rules(rt.alloc(), &profile).is_ok());
+    let graph = graph(&rt, &profile);
+    assert_eq!(&rt; graph.count(), 1);
+    assert!(&rt; graph.edges().is_empty());
 }
 
 #[test]
-fn the_first_failing_rule_is_told(rt: HostRuntime) -> Result<(), Fail> {
-    let alloc = rt.alloc();
+fn the_first_failing_rule_is_told(rt: HostRuntime) {
     let mods = [("off", false), ("a", true), ("b", true)];
     let rules = [
         ("off", RuleKind::Requires, "w"),
@@ -135,7 +125,6 @@ fn the_first_failing_rule_is_told(rt: HostRuntime) -> Result<(), Fail> {
         ("a", RuleKind::Conflicts, "b"),
         ("a", RuleKind::Requires, "y"),
     ];
-    let profile = profile_of(alloc, &mods, &rules)?;
-    assert!(rt; is_conflict(check_rules(alloc, &profile), "a", "b"));
-    Ok(())
+    let profile = profile_of(&rt, &mods, &rules);
+    assert!(&rt; is_conflict(check_rules(rt.alloc(), &profile), "a", "b"));
 }
