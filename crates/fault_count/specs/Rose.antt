@@ -1,5 +1,7 @@
-use Rattle.std.specs.Prelude.{ℕ, ◌+◌, ◌-◌, ◌^◌, ◌≤◌, min}
+-- When a count of faults rose.
+use Rattle.std.specs.Prelude.{ℕ, ◌≡◌, ◌-◌, ◌^◌, ◌<◌, ◌⊎◌}
 
--- the count rose from `before` to `now`, or stands at its end, where it can rise no more
+-- the count is greater at the end of a call than at its start, or stands at 18446744073709551615, at
+-- which a stored counter stays
 abbrev pub Rose : ℕ → ℕ → Type 0
-Rose before now = min (before + 1) (2 ^ 64 - 1) ≤ now
+Rose before now = (before < now) ⊎ (now ≡ 2 ^ 64 - 1)

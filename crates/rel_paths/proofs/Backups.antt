@@ -1,5 +1,5 @@
 -- The backup of a path: its names, its limits, and that it is reserved.
-use Rattle.std.proofs.Common.{◌≡◌, ◌≤◌, ◌+◌, ◌-◌, ℕ, nat_eq, nat_le, ◌==◌, Bool, true, false, not, ◌&&◌, ◌||◌, cond, List, [], ◌∷◌, ◌++◌, length, drop, refl, sym, ap, ◌∙◌, arith}
+use Rattle.std.proofs.Common.{leb-true, le-leb, ◌≡◌, ◌≤◌, ◌+◌, ◌-◌, ℕ, nat_eq, nat_le, ◌==◌, true, false, not, ◌&&◌, cond, List, [], ◌∷◌, ◌++◌, length, drop, refl, sym, ap, ◌∙◌, arith}
 use Rattle.std.specs.List.{onto_first, list_all, ends_with}
 use Rattle.std.specs.Str.{bytes_eq}
 use Rattle.std.proofs.lemmas.List.{length-append, append_cancel_right}
@@ -7,10 +7,12 @@ use Rattle.std.proofs.lemmas.List.Folds.{list_all-append, list_any-append}
 use Rattle.std.proofs.lemmas.List.Prefix.{end_rest}
 use Rattle.std.proofs.lemmas.Slice.Eq.{bytes_eq-Decides}
 use Rattle.rel_paths.specs.Names.{names_of, text_of, is_good_byte, is_good_name, is_name_within, user_limits, held_limits, IsUserPath, IsHeldPath, backup_ending, backup_names, has_backup, begins_with_manifest, is_reserved}
-use Rattle.rel_paths.proofs.Truths.{both, joint, either_first, either_second, not_false, not_zero, longer_differs, true_le, le_true}
 use Rattle.rel_paths.proofs.NamesOf.{has_names, text_of-names_of}
 use Rattle.rel_paths.proofs.Limits.{IsWithin-from_fault, fault-from_IsWithin}
 use Rattle.rel_paths.proofs.OneName.{IsGoodName-from_test}
+use Rattle.std.proofs.lemmas.Bool.{and_parts, and_from, or_left, or_right, not_from_false}
+use Rattle.list_laws.proofs.Truths.{or_wider, test-from_some}
+use Rattle.list_laws.proofs.Texts.{longer_differs}
 
 onto_first-backup : (b : ℕ) (n : List ℕ) (ns : List (List ℕ)) → onto_first b (backup_names (n ∷ ns)) ≡ backup_names ((b ∷ n) ∷ ns)
 onto_first-backup b n [] = refl
@@ -54,32 +56,32 @@ length-backup_names (n ∷ m ∷ ms) = let rest : length (backup_names (m ∷ ms
 
 good_backup : (name : List ℕ) → is_name_within 240 name ≡ true → is_name_within 254 (name ++ backup_ending) ≡ true
 good_backup name h =
-    let parts = both (is_good_name name) (nat_le (length name) 240) h in
-    let fits : length name ≤ 240 = true_le (length name) 240 parts.1 in
+    let parts = and_parts (is_good_name name) (nat_le (length name) 240) h in
+    let fits : length name ≤ 240 = leb-true (length name) 240 parts.1 in
     let size : length (name ++ backup_ending) ≡ length name + 14 = length-append name backup_ending in
     let whole = name ++ backup_ending in
-    let some : not (length whole == 0) ≡ true = not_false (length whole == 0) (not_zero (length whole) (omega arith)) in
-    let no_dot : not (bytes_eq whole (46 ∷ [])) ≡ true = not_false (bytes_eq whole (46 ∷ [])) (longer_differs whole (46 ∷ []) (omega arith)) in
-    let no_dots : not (bytes_eq whole (46 ∷ 46 ∷ [])) ≡ true = not_false (bytes_eq whole (46 ∷ 46 ∷ [])) (longer_differs whole (46 ∷ 46 ∷ []) (omega arith)) in
-    let bytes : list_all is_good_byte whole ≡ true = list_all-append is_good_byte name backup_ending ∙ joint (list_all is_good_byte name) (list_all is_good_byte backup_ending) (IsGoodName-from_test name parts.0).bytes refl in
-    joint (is_good_name whole) (nat_le (length whole) 254)
-    (joint (not (length whole == 0) && not (bytes_eq whole (46 ∷ [])) && not (bytes_eq whole (46 ∷ 46 ∷ []))) (list_all is_good_byte whole)
-    (joint (not (length whole == 0) && not (bytes_eq whole (46 ∷ []))) (not (bytes_eq whole (46 ∷ 46 ∷ []))) (joint (not (length whole == 0)) (not (bytes_eq whole (46 ∷ []))) some no_dot) no_dots)
+    let some : not (length whole == 0) ≡ true = not_from_false (length whole == 0) (test-from_some (length whole) (omega arith)) in
+    let no_dot : not (bytes_eq whole (46 ∷ [])) ≡ true = not_from_false (bytes_eq whole (46 ∷ [])) (longer_differs whole (46 ∷ []) (omega arith)) in
+    let no_dots : not (bytes_eq whole (46 ∷ 46 ∷ [])) ≡ true = not_from_false (bytes_eq whole (46 ∷ 46 ∷ [])) (longer_differs whole (46 ∷ 46 ∷ []) (omega arith)) in
+    let bytes : list_all is_good_byte whole ≡ true = list_all-append is_good_byte name backup_ending ∙ and_from (list_all is_good_byte name) (list_all is_good_byte backup_ending) (IsGoodName-from_test name parts.0).bytes refl in
+    and_from (is_good_name whole) (nat_le (length whole) 254)
+    (and_from (not (length whole == 0) && not (bytes_eq whole (46 ∷ [])) && not (bytes_eq whole (46 ∷ 46 ∷ []))) (list_all is_good_byte whole)
+    (and_from (not (length whole == 0) && not (bytes_eq whole (46 ∷ []))) (not (bytes_eq whole (46 ∷ 46 ∷ []))) (and_from (not (length whole == 0)) (not (bytes_eq whole (46 ∷ []))) some no_dot) no_dots)
     bytes)
-    (le_true (length whole) 254 (omega arith))
+    (le-leb (length whole) 254 (omega arith))
 
 within_more : (name : List ℕ) → is_name_within 240 name ≡ true → is_name_within 254 name ≡ true
 within_more name h =
-    let parts = both (is_good_name name) (nat_le (length name) 240) h in
-    let fits : length name ≤ 240 = true_le (length name) 240 parts.1 in
-    joint (is_good_name name) (nat_le (length name) 254) parts.0 (le_true (length name) 254 (omega arith))
+    let parts = and_parts (is_good_name name) (nat_le (length name) 240) h in
+    let fits : length name ≤ 240 = leb-true (length name) 240 parts.1 in
+    and_from (is_good_name name) (nat_le (length name) 254) parts.0 (le-leb (length name) 254 (omega arith))
 
 good_backups : (names : List (List ℕ)) → list_all (is_name_within 240) names ≡ true → list_all (is_name_within 254) (backup_names names) ≡ true
 good_backups [] h = refl
-good_backups (n ∷ []) h = joint (is_name_within 254 (n ++ backup_ending)) true (good_backup n (both (is_name_within 240 n) true h).0) refl
+good_backups (n ∷ []) h = and_from (is_name_within 254 (n ++ backup_ending)) true (good_backup n (and_parts (is_name_within 240 n) true h).0) refl
 good_backups (n ∷ m ∷ ms) h =
-    let parts = both (is_name_within 240 n) (list_all (is_name_within 240) (m ∷ ms)) h in
-    joint (is_name_within 254 n) (list_all (is_name_within 254) (backup_names (m ∷ ms))) (within_more n parts.0) (good_backups (m ∷ ms) parts.1)
+    let parts = and_parts (is_name_within 240 n) (list_all (is_name_within 240) (m ∷ ms)) h in
+    and_from (is_name_within 254 n) (list_all (is_name_within 254) (backup_names (m ∷ ms))) (within_more n parts.0) (good_backups (m ∷ ms) parts.1)
 
 -- the backup of a user path is a held path
 pub IsHeldPath-backup : (text : List ℕ) → IsUserPath text → IsHeldPath (text ++ backup_ending)
@@ -100,24 +102,19 @@ ends_with-itself : (name : List ℕ) → ends_with nat_eq (name ++ backup_ending
 ends_with-itself name = (bytes_eq-Decides backup_ending (drop (length (name ++ backup_ending) - length backup_ending) (name ++ backup_ending))).1 (sym (end_rest (name ++ backup_ending) backup_ending name refl))
 
 has_backup-backup : (n : List ℕ) (ns : List (List ℕ)) → has_backup (backup_names (n ∷ ns)) ≡ true
-has_backup-backup n [] = either_first (ends_with nat_eq (n ++ backup_ending) backup_ending) false (ends_with-itself n)
-has_backup-backup n (m ∷ ms) = either_second (ends_with nat_eq n backup_ending) (has_backup (backup_names (m ∷ ms))) (has_backup-backup m ms)
+has_backup-backup n [] = or_left (ends_with nat_eq (n ++ backup_ending) backup_ending) false (ends_with-itself n)
+has_backup-backup n (m ∷ ms) = or_right (ends_with nat_eq n backup_ending) (has_backup (backup_names (m ∷ ms))) (has_backup-backup m ms)
 
 -- a backup is reserved
 pub is_reserved-backup : (text : List ℕ) → is_reserved (backup_names (names_of text)) ≡ true
 unfolding is_reserved
 is_reserved-backup text =
     let r = has_names text in
-    rw r.2 (either_first (has_backup (backup_names (r.0 ∷ r.1))) (begins_with_manifest (backup_names (r.0 ∷ r.1))) (has_backup-backup r.0 r.1))
-
-wider : (a b c : Bool) → (a || c) ≡ true → (a || b || c) ≡ true
-wider true b c h = refl
-wider false true c h = refl
-wider false false c h = h
+    rw r.2 (or_left (has_backup (backup_names (r.0 ∷ r.1))) (begins_with_manifest (backup_names (r.0 ∷ r.1))) (has_backup-backup r.0 r.1))
 
 -- what stands below a reserved path is reserved
 pub is_reserved-below : (names : List (List ℕ)) (more : List (List ℕ)) → is_reserved names ≡ true → is_reserved (names ++ more) ≡ true
 unfolding is_reserved
 is_reserved-below [] more h = let never : ⊥ = cc in absurd never
 is_reserved-below (n ∷ ns) more h =
-    rw list_any-append (wider (has_backup (n ∷ ns)) (has_backup more) (begins_with_manifest (n ∷ ns)) h)
+    rw list_any-append (or_wider (has_backup (n ∷ ns)) (has_backup more) (begins_with_manifest (n ∷ ns)) h)

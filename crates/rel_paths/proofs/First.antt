@@ -1,17 +1,20 @@
 -- The first names of a text, told by its first bytes.
-use Rattle.std.proofs.Common.{◌≡◌, ℕ, true, false, ◌&&◌, ◌==◌, List, [], ◌∷◌, ◌++◌, ◌⊎◌, inl, inr, get_or, length, drop, refl, sym, ap, ◌∙◌, arith}
+use Rattle.std.proofs.Common.{◌≡◌, ℕ, true, false, ◌==◌, List, [], ◌∷◌, ◌++◌, ◌⊎◌, inl, inr, get_or, length, drop, refl, sym, ap, ◌∙◌, arith}
 use Rattle.std.specs.List.{starts_with}
 use Rattle.std.specs.Str.{bytes_eq}
 use Rattle.std.specs.Ordering.{nat_cmp}
 use Rattle.std.specs.Cmp.Lexicographic.{slice_cmp}
-use Rattle.std.specs.declared.cmp.Ordering.TheVariants.{Less, Equal}
+use Rattle.std.specs.declared.cmp.Ordering.TheVariants.{Less}
 use Rattle.std.proofs.lemmas.List.{append-nil}
 use Rattle.std.proofs.lemmas.List.Prefix.{front_rest}
-use Rattle.std.proofs.lemmas.Bool.Decides.{eqb_tells, nat_tests, same_from_decides, Decides-like}
+use Rattle.std.proofs.lemmas.Bool.Decides.{eqb_tells, nat_tests}
 use Rattle.std.proofs.lemmas.Slice.Eq.{starts_is, bytes_eq-Decides}
+pub use Rattle.list_laws.proofs.Texts.{names_begin as IsPrefix-from_test, names_begin-test as test-from_prefix}
+use Rattle.list_laws.proofs.Texts.{bytes_eq-turned}
+use Rattle.list_laws.proofs.Orders.{text_before_longer}
 use Rattle.rel_paths.specs.Names.{names_of, text_of, begins_with_manifest, manifest_name}
-use Rattle.rel_paths.proofs.Truths.{and_true}
 use Rattle.rel_paths.proofs.NamesOf.{has_names, names_of-between, text_of-names_of, text_of-append}
+use mathlib.Core.Bool.{and-true}
 
 -- whose first names are those of another text is that text, or that text with a slash behind
 first_names : (text other : List ℕ) (ns : List (List ℕ)) → names_of text ≡ names_of other ++ ns → (text ≡ other) ⊎ ((rest : List ℕ) × (text ≡ other ++ 47 ∷ rest))
@@ -68,27 +71,12 @@ pub starts_with-behind_some : (text other rest : List ℕ) → text ≡ other ++
 starts_with-behind_some text other [] e h = let never : ⊥ = grind (arith, nat_tests) in absurd never
 starts_with-behind_some text other (b ∷ bs) e h = starts_with-behind text other b bs e
 
-same_test : (m n : List ℕ) → (bytes_eq m n && true) ≡ bytes_eq n m
-same_test m n =
-    and_true (bytes_eq m n) ∙ same_from_decides {P = m ≡ n} (bytes_eq m n) (bytes_eq n m) (bytes_eq-Decides m n) (Decides-like (bytes_eq n m) (λ e. sym e) (λ e. sym e) (bytes_eq-Decides n m))
-
 -- the first name is the manifest's just where the manifest's names are the first ones
 pub starts_with-manifest : (text : List ℕ) → starts_with bytes_eq (names_of text) (names_of manifest_name) ≡ begins_with_manifest (names_of text)
 starts_with-manifest text =
     let r = has_names text in
-    rw r.2 (same_test manifest_name r.0)
-
--- what the test tells of any two lists of names
-pub IsPrefix-from_test : (names first : List (List ℕ)) → starts_with bytes_eq names first ≡ true → names ≡ first ++ drop (length first) names
-IsPrefix-from_test names first h = (starts_is bytes_eq-Decides names first _ refl).0 h
-
-pub test-from_prefix : (names first rest : List (List ℕ)) → names ≡ first ++ rest → starts_with bytes_eq names first ≡ true
-test-from_prefix names first rest e = (starts_is bytes_eq-Decides names first _ refl).1 rest e
+    rw r.2 (and-true (bytes_eq manifest_name r.0) ∙ bytes_eq-turned manifest_name r.0)
 
 -- a text comes before those that stand below it
 pub cmp-below : (above below : List ℕ) → slice_cmp nat_cmp above (above ++ 47 ∷ below) ≡ Less
-cmp-below [] below = refl
-cmp-below (b ∷ bs) below = rw (cmp-itself b) (cmp-below bs below)
-  where
-    cmp-itself : (n : ℕ) → nat_cmp n n ≡ Equal
-    cmp-itself n = grind (arith, nat_tests)
+cmp-below above below = text_before_longer above 47 below

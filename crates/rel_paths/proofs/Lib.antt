@@ -1,7 +1,9 @@
 pub mod Truths
 pub mod NamesOf
 pub mod First
+pub mod Extends
 pub mod Limits
 pub mod OneName
 pub mod Parents
 pub mod Backups
+pub mod Memory

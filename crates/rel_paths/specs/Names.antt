@@ -1,11 +1,12 @@
-use Rattle.std.specs.Prelude.{◌≡◌, ℕ, ◌-◌, ◌==◌, Bool, false, not, ◌&&◌, ◌||◌, nat_lt, nat_le, nat_eq, if◌then◌else◌, List, [], ◌∷◌, ◌++◌, length, take, position, codes}
-use Rattle.std.specs.List.{slice_split, list_all, list_any, join_with_byte, ends_with}
+-- Names and texts of paths: their limits, their faults, their parents and backups.
+use Rattle.std.specs.Prelude.{◌≡◌, ℕ, ◌-◌, ◌==◌, Bool, true, false, not, is_none, ◌&&◌, ◌||◌, nat_lt, nat_le, nat_eq, if◌then◌else◌, List, [], ◌∷◌, ◌++◌, length, take, position, codes}
+use Rattle.std.specs.List.{slice_split, list_all, list_any, join_with_byte, starts_with, ends_with}
 use Rattle.std.specs.Str.{bytes_eq}
 use Rattle.std.specs.declared.option.Option.{Option}
 use Rattle.std.specs.declared.option.Option.TheVariants.{None, Some}
 use Rattle.rel_paths.specs.declared.names.Limits.{Limits}
 use Rattle.rel_paths.specs.declared.error.PathError.{PathError}
-use Rattle.rel_paths.specs.declared.error.PathError.TheVariants.{Empty, Long, Deep, BadName, Memory}
+use Rattle.rel_paths.specs.declared.error.PathError.TheVariants.{Empty, Long, Deep, BadName}
 
 -- the names of a path's text, which stand between its slashes
 abbrev pub names_of : List ℕ → List (List ℕ)
@@ -21,7 +22,9 @@ is_good_byte b = nat_le 32 b && not (b == 47) && not (b == 92) && not (b == 127)
 
 -- a good name, of what is UTF-8 text already
 abbrev pub is_good_name : List ℕ → Bool
-is_good_name n = not (length n == 0) && not (bytes_eq n (46 ∷ [])) && not (bytes_eq n (46 ∷ 46 ∷ [])) && list_all is_good_byte n
+is_good_name n =
+    not (length n == 0) && not (bytes_eq n (46 ∷ [])) && not (bytes_eq n (46 ∷ 46 ∷ []))
+    && list_all is_good_byte n
 
 -- a good name of at most so many bytes
 abbrev pub is_name_within : ℕ → List ℕ → Bool
@@ -54,15 +57,13 @@ IsHeldPath text = path_fault held_limits text ≡ None
 
 -- the first fault of a text as a mod's id
 unfoldable pub id_fault : List ℕ → Option PathError
-id_fault text = if length text == 0 then Some Empty else if is_name_within 240 text then None else Some (BadName 0)
+id_fault text =
+    if length text == 0 then Some Empty
+    else if is_name_within 240 text then None
+    else Some (BadName 0)
 
 abbrev pub IsModId : List ℕ → Type 0
 IsModId text = id_fault text ≡ None
-
--- want of memory, or the first fault
-abbrev pub Explains : PathError → Option PathError → Type 0
-Explains Memory fault = Unit {0}
-Explains e fault = fault ≡ Some e
 
 -- the text with the names of the one and then those of the other
 abbrev pub joined : List ℕ → List ℕ → List ℕ
@@ -97,3 +98,22 @@ begins_with_manifest (n ∷ ns) = bytes_eq n manifest_name
 -- whether these names are a reserved path
 unfoldable pub is_reserved : List (List ℕ) → Bool
 is_reserved names = has_backup names || begins_with_manifest names
+
+-- a user path that isn't reserved
+abbrev pub IsFreePath : List ℕ → Type 0
+IsFreePath path = IsUserPath path × (is_reserved (names_of path) ≡ false)
+
+-- whether the path properly extends the other: it has the other's names and then more
+unfoldable pub extends : List ℕ → List ℕ → Bool
+extends path other =
+    starts_with bytes_eq (names_of path) (names_of other) && not (bytes_eq path other)
+
+-- a base, the folder below the game that a type of mods names: a user path that isn't reserved, of
+-- at most 8 names and 300 bytes
+unfoldable pub is_base : List ℕ → Bool
+is_base path =
+    is_none (path_fault user_limits path) && not (is_reserved (names_of path))
+    && nat_le (length (names_of path)) 8 && nat_le (length path) 300
+
+abbrev pub IsBase : List ℕ → Type 0
+IsBase path = is_base path ≡ true

@@ -1,4 +1,6 @@
 // The places that the program keeps for itself.
+ghost use Rattle.std.specs.Prelude.{◌≡◌};
+ghost use Rattle.rel_paths.specs.Controls.{control_order};
 
 /// A place that the program keeps for itself. The manifest lies in `game`, the others in `keep`.
 #[derive(Clone, Copy, Debug, PartialEq, Eq)]
@@ -15,4 +17,22 @@ pub enum Control {
     Profile,
     /// `game/vortex.deployment.json`
     Manifest,
+}
+
+static IN_ORDER: [Control; 6] = [
+    Control::Intent,
+    Control::IntentTemp,
+    Control::ManifestTemp,
+    Control::ProfileTemp,
+    Control::Profile,
+    Control::Manifest,
+];
+
+impl Control {
+    /// The control places in their order. Where several are in the way, the first is told.
+    pub fn in_order() -> &'static [Control]
+        ensures { result.now ≡ control_order }
+    {
+        &IN_ORDER
+    }
 }

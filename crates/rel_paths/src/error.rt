@@ -1,4 +1,7 @@
 // Why a text is no path, id or name.
+ghost use Rattle.std.specs.Prelude.{None};
+ghost use Rattle.fault_count.specs.Causes.{Explains};
+
 use std::alloc::AllocError;
 use thiserror::Error;
 
@@ -30,5 +33,15 @@ impl From<AllocError> for PathError {
 
     fn from(_e: AllocError) -> PathError {
         PathError::Memory
+    }
+}
+
+/// Want of memory, where a fault can be nothing else: that of a text which has none.
+pub fn only_memory(fault: PathError) -> AllocError
+    requires { Explains PathError.Memory None fault }
+{
+    match fault {
+        PathError::Memory => AllocError,
+        _ => unreachable!(),
     }
 }

@@ -1,6 +1,6 @@
 //! Paths below a root and mods' ids: the texts that are taken, the faults of those that aren't,
 //! the backup of a path, the places that the program keeps for itself, and the order of all of
-//! these, which is that of the bytes of their texts.
+//! these, which is that of the bytes of their texts. Tests: src/tests.rt.
 #![tactic(auto)]
 
 mod control;
@@ -10,8 +10,10 @@ mod names;
 mod path;
 #[cfg(test)]
 mod tests;
+mod text;
 
 pub use control::Control;
-pub use error::PathError;
+pub use error::{PathError, only_memory};
 pub use mod_id::ModId;
 pub use path::RelPath;
+pub use text::Text;

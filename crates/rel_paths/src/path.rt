@@ -1,48 +1,36 @@
 // A path below a root.
-ghost use Rattle.std.specs.Prelude.{◌≡◌, ◌++◌, ◌↔◌, IsTrue, option_map, IfOk, IfErr, IfSome, Some, nat_eq, refl};
-ghost use Rattle.std.specs.Ordering.{nat_cmp};
-ghost use Rattle.std.specs.Hash as fed;
-ghost use Rattle.std.specs.Cmp.Lexicographic.{pointwise, slice_cmp, nat_list_eq_equiv, nat_list_cmp_total, texts_ties, texts_po};
-ghost use Rattle.std.specs.Cmp.{partial_equiv_from_equiv};
-ghost use Rattle.std.specs.Cmp.Rules.{hashing};
-ghost use Rattle.std.proofs.Common.{rules};
+ghost use Rattle.std.specs.Prelude.{◌≡◌, ◌++◌, ◌↔◌, IsTrue, option_map, IfOk, IfErr, IfSome, Some};
 ghost use Rattle.std.specs.List.{starts_with};
 ghost use Rattle.std.specs.Str.{bytes_eq};
-ghost use Rattle.rel_paths.specs.Names.{names_of, is_reserved, path_fault, user_limits, held_limits, joined, parent_names, backup_names, IsUserPath, IsHeldPath, Explains};
+ghost use Rattle.fault_count.specs.Causes.{Explains};
+ghost use Rattle.rel_paths.specs.Names.{names_of, is_reserved, path_fault, user_limits, held_limits, joined, parent_names, backup_names, IsUserPath, IsHeldPath};
 ghost use Rattle.rel_paths.specs.Controls.{control_path};
 
-use crate::{Control, PathError, names};
+use crate::{Control, PathError, Text, names};
 use std::alloc::{AllocError, Global};
-use std::cmp::Ordering;
 use std::convert::AsStr;
 use std::fmt;
-use std::hash::{Hash, Hasher};
 use std::marker::Model;
 
 /// A held path: 1 to 72 good names of at most 254 bytes each, joined by `/`, with at most 1,400
-/// bytes in all. A contract sees it as the bytes of its text, whose names are `names_of` it.
-#[derive(Drop)]
+/// bytes in all. A contract sees it as the bytes of its text, whose names are `names_of` it, and
+/// its order is that of these bytes.
+#[derive(PartialEq, Eq, PartialOrd, Ord, Hash, Drop)]
 pub struct RelPath {
     text: Text,
 }
 
-// A control place's text is not kept.
-#[derive(Drop)]
-enum Text {
-    Own(String),
-    Control(Control),
-}
-
 impl Model for RelPath {
     ghost use Rattle.std.specs.Prelude.{List, ℕ};
+    ghost use Rattle.rel_paths.specs.Names.{IsHeldPath};
 
     ghost Value = { List ℕ };
 
-    ghost use Rattle.rel_paths.specs.PathText.{bytes_of, IsHeldText};
+    ghost view = { λ a. a.text };
 
-    ghost view = { λ a. bytes_of a.text };
+    ghost invariant = { λ a. IsHeldPath a.text };
 
-    ghost invariant = { λ a. IsHeldText a.text };
+    ghost inverse = { λ bytes. record { text = bytes } };
 }
 
 impl RelPath {
@@ -51,13 +39,13 @@ impl RelPath {
     pub fn parse(alloc: Global, text: &str) -> Result<RelPath, PathError>
         ensures same { IfOk result (λ path. path ≡ text.now) }
         ensures user { IfOk result (λ path. IsUserPath path) }
-        ensures err { IfErr result (λ e. Explains e (path_fault user_limits text.now)) }
+        ensures err { IfErr result (Explains PathError.Memory (path_fault user_limits text.now)) }
         ensures fault { IfSome (path_fault user_limits text.now) (λ e. result ≡ Err e) }
     {
         match names::path_fault(&names::USER, text) {
             Some(fault) => Err(fault),
             None => Ok(RelPath {
-                text: Text::Own(text.to_string(alloc)?),
+                text: Text::new(alloc, text)?,
             }),
         }
     }
@@ -67,13 +55,13 @@ impl RelPath {
     pub fn parse_held(alloc: Global, text: &str) -> Result<RelPath, PathError>
         ensures same { IfOk result (λ path. path ≡ text.now) }
         ensures held { IfOk result (λ path. IsHeldPath path) }
-        ensures err { IfErr result (λ e. Explains e (path_fault held_limits text.now)) }
+        ensures err { IfErr result (Explains PathError.Memory (path_fault held_limits text.now)) }
         ensures fault { IfSome (path_fault held_limits text.now) (λ e. result ≡ Err e) }
     {
         match names::path_fault(&names::HELD, text) {
             Some(fault) => Err(fault),
             None => Ok(RelPath {
-                text: Text::Own(text.to_string(alloc)?),
+                text: Text::new(alloc, text)?,
             }),
         }
     }
@@ -83,7 +71,7 @@ impl RelPath {
         ensures { result ≡ control_path which }
     {
         RelPath {
-            text: Text::Control(which),
+            text: Text::from_static(control_text(which)),
         }
     }
 
@@ -91,11 +79,9 @@ impl RelPath {
     pub fn copy(&self) -> Result<RelPath, AllocError>
         ensures { IfOk result (λ path. path ≡ self.now) }
     {
-        let text = match &self.text {
-            Text::Own(text) => Text::Own(text.clone()?),
-            Text::Control(which) => Text::Control(*which),
-        };
-        Ok(RelPath { text })
+        Ok(RelPath {
+            text: self.text.copy()?,
+        })
     }
 
     /// The path of this path's names and then those of `below`, which has to be within the limits
@@ -106,18 +92,19 @@ impl RelPath {
     {
         let text = names::joined(alloc, self.text(), below.text())?;
         Ok(RelPath {
-            text: Text::Own(text),
+            text: Text::from_string(text),
         })
     }
 
     /// The path of all names but the last. A path of one name has none.
     pub fn parent(&self, alloc: Global) -> Result<Option<RelPath>, AllocError>
-        ensures { IfOk result (λ parent. option_map names_of parent ≡ parent_names (names_of self.now)) }
+        ensures { IfOk result (λ parent.
+            option_map names_of parent ≡ parent_names (names_of self.now)) }
     {
         match self.text().rsplit_once('/') {
             None => Ok(None),
             Some((above, _)) => Ok(Some(RelPath {
-                text: Text::Own(above.to_string(alloc)?),
+                text: Text::new(alloc, above)?,
             })),
         }
     }
@@ -129,7 +116,7 @@ impl RelPath {
     {
         let text = names::backup(alloc, self.text())?;
         Ok(RelPath {
-            text: Text::Own(text),
+            text: Text::from_string(text),
         })
     }
 
@@ -138,10 +125,7 @@ impl RelPath {
         ensures same { result.now ≡ self.now }
         ensures held { IsHeldPath self.now }
     {
-        match &self.text {
-            Text::Own(text) => text.as_str(),
-            Text::Control(which) => control_text(*which),
-        }
+        self.text.as_str()
     }
 
     /// Whether the names of `other` are the first names of this path.
@@ -184,55 +168,6 @@ impl AsStr for RelPath {
 
     fn as_str(&self) -> &str {
         self.text()
-    }
-}
-
-impl PartialEq for RelPath {
-    ghost eq = { pointwise nat_eq };
-
-    ghost laws = { partial_equiv_from_equiv nat_list_eq_equiv };
-
-    fn eq(&self, other: &RelPath) -> bool {
-        self.text() == other.text()
-    }
-}
-
-impl Eq for RelPath {
-    ghost laws = { nat_list_eq_equiv };
-}
-
-impl PartialOrd for RelPath {
-    ghost partial_cmp = { λ x y. Some (slice_cmp nat_cmp x y) };
-
-    ghost laws = { texts_po };
-
-    fn partial_cmp(&self, other: &RelPath) -> Option<Ordering> {
-        Some(self.cmp(other))
-    }
-}
-
-/// The order of the bytes of the texts.
-impl Ord for RelPath {
-    ghost cmp = { slice_cmp nat_cmp };
-
-    ghost total = { nat_list_cmp_total };
-
-    ghost matches_partial_cmp = { λ x y. refl };
-
-    ghost matches_eq = { texts_ties };
-
-    fn cmp(&self, other: &RelPath) -> Ordering {
-        self.text().cmp(other.text())
-    }
-}
-
-impl Hash for RelPath {
-    ghost hash_input = { fed.str };
-
-    ghost respects_eq = { Prim.search (hashing, rules) };
-
-    fn hash<H: Hasher>(&self, state: &mut H) {
-        self.text().hash(state);
     }
 }
 

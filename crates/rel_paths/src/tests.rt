@@ -1,8 +1,16 @@
 // The limits, the first faults, the texts and the order, by values that were counted by hand.
-use crate::{Control, ModId, PathError, RelPath};
+use crate::{Control, ModId, PathError, RelPath, Text};
 use std::alloc::{AllocError, Global};
 use std::cmp::Ordering;
-use std::test::Fail;
+use std::process::Abort;
+
+fn path_of(rt: &(impl AllocGlobal + Abort), text: &str) -> RelPath {
+    RelPath::parse_held(rt.alloc(), text).expect(rt, "a held path")
+}
+
+fn id_of(rt: &(impl AllocGlobal + Abort), text: &str) -> ModId {
+    ModId::parse(rt.alloc(), text).expect(rt, "an id")
+}
 
 // A path whose names have these lengths.
 fn path_text(alloc: Global, lengths: &[usize]) -> Result<String, AllocError> {
@@ -30,59 +38,21 @@ fn id_fault(alloc: Global, text: &str) -> Option<PathError> {
     ModId::parse(alloc, text).err()
 }
 
-// Whether the text comes back from its path and from the path's copy.
-fn comes_back(alloc: Global, text: &str) -> Result<bool, PathError> {
-    let path = RelPath::parse(alloc, text)?;
-    let copy = path.copy()?;
-    Ok(path.text() == text && copy.text() == text && copy == path)
+fn has_parent(rt: &(impl AllocGlobal + Abort), text: &str, parent: &str) -> bool {
+    let above = path_of(rt, text).parent(rt.alloc()).expect(rt, "memory");
+    above.is_some_and(|path| path.text() == parent)
 }
 
-fn id_comes_back(alloc: Global, text: &str) -> Result<bool, PathError> {
-    let id = ModId::parse(alloc, text)?;
-    let copy = id.copy()?;
-    Ok(id.text() == text && copy.text() == text && copy == id)
+fn is_below(rt: &(impl AllocGlobal + Abort), text: &str, above: &str) -> bool {
+    path_of(rt, text).starts_with(&path_of(rt, above))
 }
 
-// The text of no parent is empty.
-fn has_parent(alloc: Global, text: &str, parent: &str) -> Result<bool, PathError> {
-    let path = RelPath::parse_held(alloc, text)?;
-    Ok(match path.parent(alloc)? {
-        None => parent.is_empty(),
-        Some(above) => above.text() == parent,
-    })
-}
-
-fn has_backup(alloc: Global, text: &str, backup: &str) -> Result<bool, PathError> {
-    let path = RelPath::parse(alloc, text)?;
-    let beside = path.backup_name(alloc)?;
-    Ok(path.is_user() && beside.text() == backup && beside.is_reserved())
-}
-
-fn order(alloc: Global, first: &str, second: &str) -> Result<Ordering, PathError> {
-    let first = RelPath::parse(alloc, first)?;
-    let second = RelPath::parse(alloc, second)?;
-    Ok(first.cmp(&second))
-}
-
-fn id_order(alloc: Global, first: &str, second: &str) -> Result<Ordering, PathError> {
-    let first = ModId::parse(alloc, first)?;
-    let second = ModId::parse(alloc, second)?;
-    Ok(first.cmp(&second))
-}
-
-fn lies_below(alloc: Global, text: &str, above: &str) -> Result<bool, PathError> {
-    let path = RelPath::parse(alloc, text)?;
-    let above = RelPath::parse(alloc, above)?;
-    Ok(path.starts_with(&above))
-}
-
-fn is_reserved(alloc: Global, text: &str) -> Result<bool, PathError> {
-    let path = RelPath::parse(alloc, text)?;
-    Ok(path.is_reserved())
+fn order(rt: &(impl AllocGlobal + Abort), first: &str, second: &str) -> Ordering {
+    path_of(rt, first).cmp(&path_of(rt, second))
 }
 
 #[test]
-fn the_first_fault_is_told(rt: HostRuntime) -> Result<(), Fail> {
+fn the_first_fault_is_told(rt: HostRuntime) {
     for (text, fault) in [
         ("", Some(PathError::Empty)),
         ("a/../b", Some(PathError::BadName(1))),
@@ -95,9 +65,13 @@ fn the_first_fault_is_told(rt: HostRuntime) -> Result<(), Fail> {
         ("a\u{7f}", Some(PathError::BadName(0))),
         ("a\u{80}/.../.hidden/ä b", None),
     ] {
-        assert_eq!(rt; user_fault(rt.alloc(), text), fault, "at {text}");
-        assert_eq!(rt; held_fault(rt.alloc(), text), fault, "at {text}");
+        assert_eq!(&rt; user_fault(rt.alloc(), text), fault, "at {text}");
+        assert_eq!(&rt; held_fault(rt.alloc(), text), fault, "at {text}");
     }
+}
+
+#[test]
+fn an_id_is_one_good_name(rt: HostRuntime) {
     for (text, fault) in [
         ("", Some(PathError::Empty)),
         ("a/b", Some(PathError::BadName(0))),
@@ -105,13 +79,12 @@ fn the_first_fault_is_told(rt: HostRuntime) -> Result<(), Fail> {
         ("a\u{7f}", Some(PathError::BadName(0))),
         ("a b", None),
     ] {
-        assert_eq!(rt; id_fault(rt.alloc(), text), fault, "at {text}");
+        assert_eq!(&rt; id_fault(rt.alloc(), text), fault, "at {text}");
     }
-    Ok(())
 }
 
 #[test]
-fn each_limit_is_the_last_that_passes(rt: HostRuntime) -> Result<(), Fail> {
+fn each_limit_is_the_last_that_passes(rt: HostRuntime) {
     let bad = Some(PathError::BadName(0));
     let long = Some(PathError::Long);
     let deep = Some(PathError::Deep);
@@ -130,50 +103,69 @@ fn each_limit_is_the_last_that_passes(rt: HostRuntime) -> Result<(), Fail> {
         (&ones[..72], deep, None),
         (&ones[..73], deep, deep),
     ] {
-        let text = path_text(rt.alloc(), lengths)?;
-        assert_eq!(rt; user_fault(rt.alloc(), text.as_str()), user, "at {text}");
-        assert_eq!(rt; held_fault(rt.alloc(), text.as_str()), held, "at {text}");
+        let text = path_text(rt.alloc(), lengths).expect(&rt, "memory");
+        assert_eq!(&rt; user_fault(rt.alloc(), text.as_str()), user, "at {text}");
+        assert_eq!(&rt; held_fault(rt.alloc(), text.as_str()), held, "at {text}");
     }
     for (length, fault) in [(240, None), (241, bad)] {
-        let text = path_text(rt.alloc(), &[length])?;
-        assert_eq!(rt; id_fault(rt.alloc(), text.as_str()), fault, "at {text}");
+        let text = path_text(rt.alloc(), &[length]).expect(&rt, "memory");
+        assert_eq!(&rt; id_fault(rt.alloc(), text.as_str()), fault, "at {text}");
     }
-    Ok(())
 }
 
 #[test]
-fn texts_come_back(rt: HostRuntime) -> Result<(), Fail> {
-    assert!(rt; comes_back(rt.alloc(), "meshes/rock.nif")?);
-    assert!(rt; id_comes_back(rt.alloc(), "Better Rocks 1.2")?);
-    assert!(rt; has_parent(rt.alloc(), "meshes/rocks/rock.nif", "meshes/rocks")?);
-    assert!(rt; has_parent(rt.alloc(), "meshes", "")?);
-    assert!(rt;
-        has_backup(
-            rt.alloc(),
-            "meshes/rock.nif",
-            "meshes/rock.nif.vortex_backup"
-        )?
+fn texts_come_back(rt: HostRuntime) {
+    let path = RelPath::parse(rt.alloc(), "meshes/rock.nif").expect(&rt, "a user path");
+    let copy = path.copy().expect(&rt, "memory");
+    assert_eq!(&rt; copy.text(), "meshes/rock.nif");
+    assert!(&rt; copy == path);
+    let id = id_of(&rt, "Better Rocks 1.2");
+    let copy = id.copy().expect(&rt, "memory");
+    assert_eq!(&rt; copy.text(), "Better Rocks 1.2");
+    assert!(&rt; copy == id);
+    let text = Text::from_static("a").copy().expect(&rt, "memory");
+    assert_eq!(&rt;
+        text.into_string(rt.alloc()).expect(&rt, "memory").as_str(),
+        "a"
     );
-    Ok(())
 }
 
 #[test]
-fn control_places_have_their_texts(rt: HostRuntime) -> Result<(), Fail> {
-    for (which, text) in [
-        (Control::Intent, "intent.json"),
-        (Control::IntentTemp, "intent.tmp"),
-        (Control::ManifestTemp, "manifest.tmp"),
-        (Control::ProfileTemp, "profile.tmp"),
-        (Control::Profile, "profile.toml"),
-        (Control::Manifest, "vortex.deployment.json"),
-    ] {
-        assert_eq!(rt; RelPath::control(which).copy()?.text(), text);
+fn a_parent_has_all_names_but_the_last(rt: HostRuntime) {
+    assert!(&rt; has_parent(&rt, "meshes/rocks/rock.nif", "meshes/rocks"));
+    let none = path_of(&rt, "meshes")
+        .parent(rt.alloc())
+        .expect(&rt, "memory");
+    assert!(&rt; none.is_none());
+}
+
+#[test]
+fn a_backup_is_reserved(rt: HostRuntime) {
+    let path = RelPath::parse(rt.alloc(), "meshes/rock.nif").expect(&rt, "a user path");
+    let backup = path.backup_name(rt.alloc()).expect(&rt, "memory");
+    assert_eq!(&rt; backup.text(), "meshes/rock.nif.vortex_backup");
+    assert!(&rt; backup.is_reserved());
+}
+
+#[test]
+fn control_places_have_their_texts_in_order(rt: HostRuntime) {
+    let texts = [
+        "intent.json",
+        "intent.tmp",
+        "manifest.tmp",
+        "profile.tmp",
+        "profile.toml",
+        "vortex.deployment.json",
+    ];
+    assert_eq!(&rt; Control::in_order().len(), 6);
+    for (which, text) in Control::in_order().iter().zip(texts) {
+        let path = RelPath::control(*which).copy().expect(&rt, "memory");
+        assert_eq!(&rt; path.text(), text);
     }
-    Ok(())
 }
 
 #[test]
-fn the_order_is_that_of_the_bytes(rt: HostRuntime) -> Result<(), Fail> {
+fn the_order_is_that_of_the_bytes(rt: HostRuntime) {
     for (first, second) in [
         ("a.d", "a/c"),
         ("a/c", "a0"),
@@ -181,23 +173,14 @@ fn the_order_is_that_of_the_bytes(rt: HostRuntime) -> Result<(), Fail> {
         ("B", "a"),
         ("z", "ä"),
     ] {
-        assert_eq!(rt;
-            order(rt.alloc(), first, second)?,
-            Ordering::Less,
-            "at {first}"
-        );
-        assert_eq!(rt;
-            order(rt.alloc(), second, first)?,
-            Ordering::Greater,
-            "at {first}"
-        );
+        assert_eq!(&rt; order(&rt, first, second), Ordering::Less, "at {first}");
+        assert_eq!(&rt; order(&rt, second, first), Ordering::Greater, "at {first}");
     }
-    assert_eq!(rt; id_order(rt.alloc(), "B", "a")?, Ordering::Less);
-    Ok(())
+    assert_eq!(&rt; id_of(&rt, "B").cmp(&id_of(&rt, "a")), Ordering::Less);
 }
 
 #[test]
-fn names_decide_what_lies_below(rt: HostRuntime) -> Result<(), Fail> {
+fn names_decide_what_lies_below(rt: HostRuntime) {
     for (text, above, below) in [
         ("a/b", "a", true),
         ("a/b", "a/b", true),
@@ -205,13 +188,12 @@ fn names_decide_what_lies_below(rt: HostRuntime) -> Result<(), Fail> {
         ("a/bc", "a/b", false),
         ("a", "a/b", false),
     ] {
-        assert_eq!(rt; lies_below(rt.alloc(), text, above)?, below, "at {text}");
+        assert_eq!(&rt; is_below(&rt, text, above), below, "at {text}");
     }
-    Ok(())
 }
 
 #[test]
-fn names_decide_what_is_reserved(rt: HostRuntime) -> Result<(), Fail> {
+fn names_decide_what_is_reserved(rt: HostRuntime) {
     for (text, reserved) in [
         ("a/.vortex_backup/b", true),
         ("x.vortex_backup", true),
@@ -219,19 +201,15 @@ fn names_decide_what_is_reserved(rt: HostRuntime) -> Result<(), Fail> {
         ("vortex.deployment.json/x", true),
         ("a/vortex.deployment.json", false),
     ] {
-        assert_eq!(rt; is_reserved(rt.alloc(), text)?, reserved, "at {text}");
+        assert_eq!(&rt; path_of(&rt, text).is_reserved(), reserved, "at {text}");
     }
-    Ok(())
 }
 
 #[test]
 #[tactic(auto, unfolding(crate::specs::Names::path_fault))]
-fn joined_names_stand_behind_one_another(rt: HostRuntime) -> Result<(), Fail> {
-    let above = RelPath::parse(rt.alloc(), "aside/1")?;
-    let below = RelPath::parse(rt.alloc(), "game/x.txt")?;
-    assert_eq!(rt;
-        above.join(rt.alloc(), &below)?.text(),
-        "aside/1/game/x.txt"
-    );
-    Ok(())
+fn joined_names_stand_behind_one_another(rt: HostRuntime) {
+    let above = RelPath::parse(rt.alloc(), "aside/1").expect(&rt, "a user path");
+    let below = RelPath::parse(rt.alloc(), "game/x.txt").expect(&rt, "a user path");
+    let whole = above.join(rt.alloc(), &below).expect(&rt, "memory");
+    assert_eq!(&rt; whole.text(), "aside/1/game/x.txt");
 }

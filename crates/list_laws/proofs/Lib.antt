@@ -1,0 +1,12 @@
+pub mod Truths
+pub mod Orders
+pub mod Texts
+pub mod Alls
+pub mod Containing
+pub mod Lists
+pub mod Positions
+pub mod Rising
+pub mod Sorted
+pub mod Distinct
+pub mod Sums
+pub mod Lookups
