@@ -1,7 +1,8 @@
 -- The edges that the loops find are those of the rules.
 use Rattle.std.proofs.Common.{◌≡◌, ℕ, ◌+◌, ◌<◌, zero, suc, List, [], ◌∷◌, ◌++◌, Bool, true, Option, None, Some, ◌⊎◌, inl, inr, ◌↔◌, Contains, All, ◌||◌, length, append-nil, append_assoc, get_or, slice_get, add-zero, zero-add, refl, sym, ap, subst, ◌∙◌, nat_eq, arith}
 use Rattle.std.proofs.lemmas.List.Elements.{Contains-get_or, Contains-append_left, Contains-append_right, Contains-append_cases}
-use Rattle.std.proofs.lemmas.List.Folds.{list_any_at, list_any-append, Any-from_list_any}
+use Rattle.std.proofs.lemmas.List.Folds.{list_any-append}
+use Rattle.std.proofs.lemmas.Option.{slice_get_within}
 use Rattle.std.proofs.lemmas.Map.Lookups.{exact_unsigned, exact_pairs}
 use Rattle.std.specs.List.{list_any, filter_map, cons_option, IsDistinct}
 use Rattle.std.specs.Map.{keys_of}
@@ -11,6 +12,8 @@ use Rattle.std.specs.declared.cmp.Ordering.{Ordering}
 use Rattle.std.specs.declared.cmp.Ordering.TheVariants.{Less, Equal, Greater}
 use Rattle.std.specs.Cmp.{nat_cmp_is}
 use Rattle.std.specs.Cmp.Lexicographic.{pointwise}
+use Rattle.list_laws.proofs.Containing.{contains_filter_map, filter_map_contains, any-from_contains, contains-from_any_one}
+use Rattle.list_laws.proofs.Orders.{equal-from_test}
 use Rattle.profile_toml.specs.declared.rule.RuleKind.{RuleKind}
 use Rattle.profile_toml.specs.declared.rule.RuleKind.TheVariants.{Before, After, Requires, Conflicts, Recommends}
 use Rattle.profile_toml.specs.Records.{ModData, RuleData}
@@ -18,56 +21,9 @@ use Rattle.mod_rules.specs.Nodes.{enabled_of}
 use Rattle.mod_rules.specs.Edges.{IsEdge, edge_cmp}
 use Rattle.mod_rules.specs.Pairs.{node_of, kind_pair, rule_pair, pairs_of, is_edge}
 use Rattle.mod_rules.proofs.Steps.{enabled_of-on}
-use Rattle.mod_rules.proofs.Counts.{node_of-Some, node_of-at, place_below}
-
--- ---- members of lists
-
-first_is : {X : Type 0} (x : X) (xs : List X) → Contains (x ∷ xs) x
-first_is x xs = (0, omega arith, refl)
-
-later_is : {X : Type 0} (x y : X) (xs : List X) → Contains xs y → Contains (x ∷ xs) y
-later_is x y xs h = (suc h.0, omega (arith, h.1), h.2)
-
-first_or_later : {X : Type 0} (x y : X) (xs : List X) → Contains (x ∷ xs) y → (x ≡ y) ⊎ Contains xs y
-first_or_later x y xs h = by h.0 h.1 h.2
-  where
-    by : (k : ℕ) → k < length (x ∷ xs) → get_or (x ∷ xs) k y ≡ y → (x ≡ y) ⊎ Contains xs y
-    by zero l e = inl e
-    by (suc k) l e = inr (k, omega arith, e)
+use Rattle.mod_rules.proofs.Counts.{node_of-Some, node_of-at}
 
 -- ---- the edges of a mod's rules
-
-record Gives (f : RuleData → Option (ℕ × ℕ)) (rs : List RuleData) (q : ℕ × ℕ) : Type 0 where
-  rule : RuleData
-  among : Contains rs rule
-  is : f rule ≡ Some q
-
-given_later : (f : RuleData → Option (ℕ × ℕ)) (r : RuleData) (rs : List RuleData) (q : ℕ × ℕ) → Gives f rs q → Gives f (r ∷ rs) q
-given_later f r rs q h = record { rule = h.rule; among = later_is r h.rule rs h.among; is = h.is }
-
-gives : (f : RuleData → Option (ℕ × ℕ)) (rs : List RuleData) (q : ℕ × ℕ) → Contains (filter_map f rs) q → Gives f rs q
-gives f [] q h = absurd (omega (arith, h.1))
-gives f (r ∷ rs) q h = by (f r) refl (gives f rs q)
-  where
-    by : (o : Option (ℕ × ℕ)) → f r ≡ o → (Contains (filter_map f rs) q → Gives f rs q) → Gives f (r ∷ rs) q
-    by None e rest = given_later f r rs q (rest (subst (λ o. Contains (cons_option o (filter_map f rs)) q) e h))
-    by (Some p) e rest =
-        elim (first_or_later p q (filter_map f rs) (subst (λ o. Contains (cons_option o (filter_map f rs)) q) e h)) [
-          | inl same ↦ record { rule = r; among = first_is r rs; is = e ∙ ap (λ x. Some x) same }
-          | inr later ↦ given_later f r rs q (rest later)
-        ]
-
-given : (f : RuleData → Option (ℕ × ℕ)) (rs : List RuleData) (r : RuleData) (q : ℕ × ℕ) → Contains rs r → f r ≡ Some q → Contains (filter_map f rs) q
-given f [] r q h is = absurd (omega (arith, h.1))
-given f (x ∷ rs) r q h is =
-    elim (first_or_later x r rs h) [
-      | inl same ↦ subst (λ o. Contains (cons_option o (filter_map f rs)) q) (sym (ap f same ∙ is)) (first_is q (filter_map f rs))
-      | inr later ↦ by (f x) (given f rs r q later is)
-    ]
-  where
-    by : (o : Option (ℕ × ℕ)) → Contains (filter_map f rs) q → Contains (cons_option o (filter_map f rs)) q
-    by None c = c
-    by (Some p) c = later_is p q (filter_map f rs) c
 
 -- ---- the edges of all
 
@@ -85,8 +41,8 @@ module _ (mods : List (List ℕ × ModData)) where
   found n (m ∷ ms) q h =
       elim (Contains-append_cases (filter_map (rule_pair mods n) m.1.rules) (pairs_of mods (n + 1) ms) q h) [
         | inl here ↦
-            let g = gives (rule_pair mods n) m.1.rules q here in
-            record { place = 0; entry = m; rule = g.rule; at = refl; among = g.among; is = rw add-zero g.is }
+            let g = contains_filter_map (rule_pair mods n) m.1.rules q here in
+            record { place = 0; entry = m; rule = g.0; at = refl; among = g.1; is = rw add-zero g.2 }
         | inr there ↦
             let f = found (n + 1) ms q there in
             record { place = suc f.place; entry = f.entry; rule = f.rule; at = f.at; among = f.among; is = subst (λ k. rule_pair mods k f.rule ≡ Some q) (omega arith) f.is }
@@ -97,7 +53,7 @@ module _ (mods : List (List ℕ × ModData)) where
   listed n [] q k m r at among is = cc
   listed n (x ∷ xs) q zero m r at among is =
       let e : m ≡ x = cc in
-      let own : Contains (filter_map (rule_pair mods n) m.1.rules) q = given (rule_pair mods n) m.1.rules r q among (subst (λ k. rule_pair mods k r ≡ Some q) (add-zero n) is) in
+      let own : Contains (filter_map (rule_pair mods n) m.1.rules) q = filter_map_contains (rule_pair mods n) m.1.rules r q among (subst (λ k. rule_pair mods k r ≡ Some q) (add-zero n) is) in
       Contains-append_left (filter_map (rule_pair mods n) x.1.rules) (pairs_of mods (n + 1) xs) q (subst (λ y. Contains (filter_map (rule_pair mods n) y.1.rules) q) e own)
   listed n (x ∷ xs) q (suc k) m r at among is =
       Contains-append_right (filter_map (rule_pair mods n) x.1.rules) (pairs_of mods (n + 1) xs) q
@@ -108,40 +64,40 @@ module _ (mods : List (List ℕ × ModData)) where
 
   -- ---- an edge found is an edge
 
-  before_edge : (a b k : ℕ) (m : List ℕ × ModData) (r : RuleData) (o : Option ℕ) → slice_get (enabled_of mods) k ≡ Some m → Contains m.1.rules r → r.kind ≡ Before → node_of 0 r.refers mods ≡ o
+  before_edge : (a b k : ℕ) (m : List ℕ × ModData) (r : RuleData) (o : Option ℕ) → slice_get (enabled_of mods) k ≡ Some m → Contains m.1.rules r → r.kind ≡ Before → node_of 0 r mods ≡ o
       → option_map {U = ℕ × ℕ} (λ j. (k, j)) o ≡ Some (a, b) → IsEdge (enabled_of mods) a b
   before_edge a b k m r None at among kind is h = cc
   before_edge a b k m r (Some j) at among kind is h =
       let same = parts (k, j) (a, b) h in
-      let t = node_of-Some 0 r.refers mods j is in
+      let t = node_of-Some 0 r mods j is in
       let place : t.place ≡ b = omega (arith, t.is, same.1) in
       record {
         first = m;
         second = t.entry;
         first_at = subst (λ i. slice_get (enabled_of mods) i ≡ Some m) same.0 at;
         second_at = subst (λ i. slice_get (enabled_of mods) i ≡ Some t.entry) place t.at;
-        ruled = inr (record { rule = r; among = among; of_kind = kind; refers_to = sym t.own });
+        ruled = inr (record { rule = r; among = among; of_kind = kind; refers_to = sym t.own; admitted = t.admitted });
       }
 
-  after_edge : (a b k : ℕ) (m : List ℕ × ModData) (r : RuleData) (o : Option ℕ) → slice_get (enabled_of mods) k ≡ Some m → Contains m.1.rules r → r.kind ≡ After → node_of 0 r.refers mods ≡ o
+  after_edge : (a b k : ℕ) (m : List ℕ × ModData) (r : RuleData) (o : Option ℕ) → slice_get (enabled_of mods) k ≡ Some m → Contains m.1.rules r → r.kind ≡ After → node_of 0 r mods ≡ o
       → option_map {U = ℕ × ℕ} (λ j. (j, k)) o ≡ Some (a, b) → IsEdge (enabled_of mods) a b
   after_edge a b k m r None at among kind is h = cc
   after_edge a b k m r (Some j) at among kind is h =
       let same = parts (j, k) (a, b) h in
-      let t = node_of-Some 0 r.refers mods j is in
+      let t = node_of-Some 0 r mods j is in
       let place : t.place ≡ a = omega (arith, t.is, same.0) in
       record {
         first = t.entry;
         second = m;
         first_at = subst (λ i. slice_get (enabled_of mods) i ≡ Some t.entry) place t.at;
         second_at = subst (λ i. slice_get (enabled_of mods) i ≡ Some m) same.1 at;
-        ruled = inl (record { rule = r; among = among; of_kind = kind; refers_to = sym t.own });
+        ruled = inl (record { rule = r; among = among; of_kind = kind; refers_to = sym t.own; admitted = t.admitted });
       }
 
   kind_edge : (a b k : ℕ) (m : List ℕ × ModData) (r : RuleData) (kind : RuleKind) → slice_get (enabled_of mods) k ≡ Some m → Contains m.1.rules r → r.kind ≡ kind
-      → kind_pair kind k (node_of 0 r.refers mods) ≡ Some (a, b) → IsEdge (enabled_of mods) a b
-  kind_edge a b k m r Before at among kind h = before_edge a b k m r (node_of 0 r.refers mods) at among kind refl h
-  kind_edge a b k m r After at among kind h = after_edge a b k m r (node_of 0 r.refers mods) at among kind refl h
+      → kind_pair kind k (node_of 0 r mods) ≡ Some (a, b) → IsEdge (enabled_of mods) a b
+  kind_edge a b k m r Before at among kind h = before_edge a b k m r (node_of 0 r mods) at among kind refl h
+  kind_edge a b k m r After at among kind h = after_edge a b k m r (node_of 0 r mods) at among kind refl h
   kind_edge a b k m r Requires at among kind h = cc
   kind_edge a b k m r Conflicts at among kind h = cc
   kind_edge a b k m r Recommends at among kind h = cc
@@ -157,11 +113,11 @@ module _ (mods : List (List ℕ × ModData)) where
   pair_from_edge a b apart h =
       elim h.ruled [
         | inl rule ↦
-            let node : node_of 0 rule.rule.refers mods ≡ Some a = ap (λ id. node_of 0 id mods) rule.refers_to ∙ node_of-at 0 mods a h.first apart h.first_at ∙ ap (λ j. Some j) (zero-add a) in
-            listed 0 (enabled_of mods) (a, b) b h.second rule.rule h.second_at rule.among (rw (rule.of_kind, node) (ap (λ j. Some (a, j)) (zero-add b)))
+            let node : node_of 0 rule.rule mods ≡ Some a = node_of-at 0 rule.rule mods a h.first apart h.first_at rule.refers_to rule.admitted ∙ ap (λ j. Some j) (zero-add a) in
+            listed 0 (enabled_of mods) (a, b) b h.second rule.rule h.second_at rule.among (rw (node, rule.of_kind) (ap (λ j. Some (a, j)) (zero-add b)))
         | inr rule ↦
-            let node : node_of 0 rule.rule.refers mods ≡ Some b = ap (λ id. node_of 0 id mods) rule.refers_to ∙ node_of-at 0 mods b h.second apart h.second_at ∙ ap (λ j. Some j) (zero-add b) in
-            listed 0 (enabled_of mods) (a, b) a h.first rule.rule h.first_at rule.among (rw (rule.of_kind, node) (ap (λ j. Some (j, b)) (zero-add a)))
+            let node : node_of 0 rule.rule mods ≡ Some b = node_of-at 0 rule.rule mods b h.second apart h.second_at rule.refers_to rule.admitted ∙ ap (λ j. Some j) (zero-add b) in
+            listed 0 (enabled_of mods) (a, b) a h.first rule.rule h.first_at rule.among (rw (node, rule.of_kind) (ap (λ j. Some (j, b)) (zero-add a)))
       ]
 
 -- ---- the keys of the set
@@ -169,31 +125,17 @@ module _ (mods : List (List ℕ × ModData)) where
 same_is : (q : ℕ × ℕ) → is_edge q q ≡ true
 same_is q = rw (sym (nat_cmp_is q.0 q.0 Equal refl), sym (nat_cmp_is q.1 q.1 Equal refl)) refl
 
-is_eq-Equal : (o : Ordering) → is_eq o ≡ true → o ≡ Equal
-is_eq-Equal Less h = cc
-is_eq-Equal Equal h = refl
-is_eq-Equal Greater h = cc
-
 is_same : (p q : ℕ × ℕ) → is_edge p q ≡ true → p ≡ q
-is_same p q h = exact_pairs nat_cmp nat_cmp exact_unsigned exact_unsigned p q (is_eq-Equal (edge_cmp p q) h)
-
-pub any_from_contains : (t : ℕ × ℕ → Bool) (xs : List (ℕ × ℕ)) (q : ℕ × ℕ) → t q ≡ true → Contains xs q → list_any t xs ≡ true
-any_from_contains t xs q here h = list_any_at t xs h.0 q h.1 (ap t h.2 ∙ here)
-
-pub contains_from_any : (t : ℕ × ℕ → Bool) (xs : List (ℕ × ℕ)) (q : ℕ × ℕ) → ((x : ℕ × ℕ) → t x ≡ true → x ≡ q) → list_any t xs ≡ true → Contains xs q
-contains_from_any t xs q only h =
-    let found = Any-from_list_any t xs h in
-    let is : found.1 ≡ q = only found.1 found.4 in
-    (found.0, found.2, subst (λ x. get_or xs found.0 x ≡ x) is found.3)
+is_same p q h = exact_pairs nat_cmp nat_cmp exact_unsigned exact_unsigned p q (equal-from_test (edge_cmp p q) h)
 
 -- the keys of a set that has the pairs are the edges
 pub edges_are : (mods : List (List ℕ × ModData)) (keys : List (ℕ × ℕ)) → IsDistinct (pointwise nat_eq) (keys_of mods)
     → ((q : ℕ × ℕ) → list_any (λ e. is_edge q e) keys ≡ list_any (λ e. is_edge e q) (pairs_of mods 0 (enabled_of mods))) → (a b : ℕ) → Contains keys (a, b) ↔ IsEdge (enabled_of mods) a b
 edges_are mods keys apart h a b = (
-  λ has. edge_from_pair mods a b (contains_from_any (λ e. is_edge e (a, b)) (pairs_of mods 0 (enabled_of mods)) (a, b) (λ x s. is_same x (a, b) s)
-      (sym (h (a, b)) ∙ any_from_contains (λ e. is_edge (a, b) e) keys (a, b) (same_is (a, b)) has)),
-  λ edge. contains_from_any (λ e. is_edge (a, b) e) keys (a, b) (λ x s. sym (is_same (a, b) x s))
-      (h (a, b) ∙ any_from_contains (λ e. is_edge e (a, b)) (pairs_of mods 0 (enabled_of mods)) (a, b) (same_is (a, b)) (pair_from_edge mods a b apart edge)),
+  λ has. edge_from_pair mods a b (contains-from_any_one (λ e. is_edge e (a, b)) (pairs_of mods 0 (enabled_of mods)) (a, b) (λ x s. is_same x (a, b) s)
+      (sym (h (a, b)) ∙ any-from_contains (λ e. is_edge (a, b) e) keys (a, b) (same_is (a, b)) has)),
+  λ edge. contains-from_any_one (λ e. is_edge (a, b) e) keys (a, b) (λ x s. sym (is_same (a, b) x s))
+      (h (a, b) ∙ any-from_contains (λ e. is_edge e (a, b)) (pairs_of mods 0 (enabled_of mods)) (a, b) (same_is (a, b)) (pair_from_edge mods a b apart edge)),
 )
 
 -- both nodes of an edge are among the enabled mods
@@ -201,7 +143,7 @@ pub edges_within : (nodes : List (List ℕ × ModData)) (keys : List (ℕ × ℕ
 edges_within nodes keys h k d below =
     let e = get_or keys k d in
     let edge = (h e.0 e.1).0 (Contains-get_or keys k d below) in
-    (place_below nodes e.0 edge.first edge.first_at, place_below nodes e.1 edge.second edge.second_at)
+    (slice_get_within nodes e.0 edge.first edge.first_at, slice_get_within nodes e.1 edge.second edge.second_at)
 
 -- ---- one more node
 

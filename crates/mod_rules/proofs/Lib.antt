@@ -1,3 +1,4 @@
+pub mod Ascending
 pub mod Steps
 pub mod Counts
 pub mod Found

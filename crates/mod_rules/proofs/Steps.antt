@@ -1,6 +1,5 @@
 -- Steps of the loops over the mods and over the rules.
-use Rattle.std.proofs.Common.{◌≡◌, ◌≤◌, ℕ, ◌+◌, List, [], ◌∷◌, ◌++◌, Bool, true, false, cond, ◌||◌, Option, None, Some, length, map, find, refl, sym, ap, ◌∙◌, append_assoc, append-nil, length-append, arith}
-use Rattle.std.proofs.lemmas.List.{map-append}
+use Rattle.std.proofs.Common.{◌≡◌, ◌≤◌, ℕ, ◌+◌, List, [], ◌∷◌, ◌++◌, Bool, true, false, cond, ◌||◌, Option, None, Some, length, map, find, refl, ap, ◌∙◌, append-nil, length-append, arith}
 use Rattle.std.proofs.lemmas.List.Elements.{filter-append, filter_map-append}
 use Rattle.std.proofs.lemmas.List.Folds.{list_any-append, find-append}
 use Rattle.std.proofs.lemmas.List.Concat.{flat_map-append}
@@ -10,14 +9,6 @@ use Rattle.profile_toml.specs.Records.{ModData, RuleData}
 use Rattle.mod_rules.specs.Nodes.{enabled_of}
 use Rattle.mod_rules.specs.Checks.{rules_of}
 use Rattle.mod_rules.specs.Pairs.{is_edge}
-
--- one more item taken of all
-pub seen_more : {A X : Type 0} (f : A → X) (done : List A) (x : A) (rest before all : List X) → before ≡ f x ∷ rest → map f done ++ before ≡ all → map f (done ++ x ∷ []) ++ rest ≡ all
-seen_more f done x rest before all step h = rw map-append (append_assoc (map f done) (f x ∷ []) rest ∙ ap (λ l. map f done ++ l) (sym step) ∙ h)
-
--- nothing is left
-pub seen_all : {X : Type 0} (done rest all : List X) → rest ≡ [] → done ++ rest ≡ all → done ≡ all
-seen_all done rest all none h = sym (append-nil done) ∙ ap (λ l. done ++ l) (sym none) ∙ h
 
 pub enabled_of-on : (ys : List (List ℕ × ModData)) (m : List ℕ × ModData) → m.1.enabled ≡ true → enabled_of (ys ++ m ∷ []) ≡ enabled_of ys ++ m ∷ []
 enabled_of-on ys m on = filter-append (λ x. x.1.enabled) ys (m ∷ []) ∙ ap (λ b. enabled_of ys ++ cond b (m ∷ []) []) on

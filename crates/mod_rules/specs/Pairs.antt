@@ -7,6 +7,7 @@ use Rattle.profile_toml.specs.declared.rule.RuleKind.{RuleKind}
 use Rattle.profile_toml.specs.declared.rule.RuleKind.TheVariants.{Before, After}
 use Rattle.profile_toml.specs.Records.{ModData, RuleData}
 use Rattle.std.specs.Ordering.{is_eq}
+use Rattle.mod_rules.specs.Nodes.{is_met_by}
 use Rattle.mod_rules.specs.Edges.{edge_cmp}
 
 -- for each mod, how many enabled ones stand before it, if n do before the first
@@ -14,21 +15,22 @@ abbrev pub counts_before : ℕ → List (List ℕ × ModData) → List ℕ
 counts_before n [] = []
 counts_before n (m ∷ ms) = n ∷ counts_before (if m.1.enabled then n + 1 else n) ms
 
--- the node of the mod with this id, if it is enabled
-abbrev pub node_of : ℕ → List ℕ → List (List ℕ × ModData) → Option ℕ
-node_of n id [] = None
-node_of n id (m ∷ ms) =
-    if bytes_eq id m.0 then (if m.1.enabled then Some n else None)
-    else node_of (if m.1.enabled then n + 1 else n) id ms
+-- the node of the mod that the rule matches, if n enabled ones stand before the first
+abbrev pub node_of : ℕ → RuleData → List (List ℕ × ModData) → Option ℕ
+node_of n r [] = None
+node_of n r (m ∷ ms) =
+    if bytes_eq r.refers m.0 then (if is_met_by r m.1 then Some n else None)
+    else node_of (if m.1.enabled then n + 1 else n) r ms
 
--- the edge of a rule of this kind, of the mod at the node and the one at the other, if that is enabled
+-- the edge of a rule of this kind, of the mod at the node and the one at the other, if it matches
+-- that one
 abbrev pub kind_pair : RuleKind → ℕ → Option ℕ → Option (ℕ × ℕ)
 kind_pair Before node other = option_map (λ k. (node, k)) other
 kind_pair After node other = option_map (λ k. (k, node)) other
 kind_pair _ node other = None
 
 abbrev pub rule_pair : List (List ℕ × ModData) → ℕ → RuleData → Option (ℕ × ℕ)
-rule_pair mods node r = kind_pair r.kind node (node_of 0 r.refers mods)
+rule_pair mods node r = kind_pair r.kind node (node_of 0 r mods)
 
 -- the edges of the rules of these nodes, the first of which is node n
 abbrev pub pairs_of : List (List ℕ × ModData) → ℕ → List (List ℕ × ModData) → List (ℕ × ℕ)

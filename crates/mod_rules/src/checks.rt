@@ -1,10 +1,11 @@
 // The first rule that fails.
 ghost use Rattle.std.specs.Prelude.{◌≡◌, None, IfOk, IfErr, OnOk, find};
-ghost use Rattle.std.specs.Option.{option_copied};
-ghost use Rattle.mod_rules.specs.Checks.{is_failing, first_failing_rule, error_of, Explains};
+ghost use Rattle.std.specs.Option.{option_copied, option_map};
+ghost use Rattle.fault_count.specs.Causes.{Explains};
+ghost use Rattle.mod_rules.specs.Checks.{is_failing, first_failing_rule, error_of};
 
 use crate::RuleError;
-use crate::nodes::is_enabled;
+use crate::nodes::is_matching;
 use indexmap::IndexMap;
 use profile_toml::{ModEntry, Profile, Rule, RuleKind};
 use rel_paths::ModId;
@@ -14,10 +15,9 @@ use std::alloc::{AllocError, Global};
 fn is_failing(mods: &IndexMap<ModId, ModEntry>, id: &ModId, rule: &Rule) -> bool
     ensures { result ≡ is_failing mods.now.entries (id.now, rule.now) }
 {
-    let other = rule.refers();
     match rule.kind() {
-        RuleKind::Requires => !is_enabled(mods, other),
-        RuleKind::Conflicts => is_enabled(mods, other) && other != id,
+        RuleKind::Requires => !is_matching(mods, rule),
+        RuleKind::Conflicts => is_matching(mods, rule) && rule.refers() != id,
         RuleKind::Before | RuleKind::After | RuleKind::Recommends => false,
     }
 }
@@ -48,12 +48,14 @@ fn error_of(id: &ModId, rule: &Rule) -> Result<RuleError, AllocError>
     })
 }
 
-/// The first rule that fails, of the enabled mods in the profile's order and of each mod's rules in theirs. `Missing` is for a
-/// `requires` of a mod that isn't enabled, and `Conflict` for a `conflicts` with another enabled mod. Rules of disabled mods don't
-/// count.
+/// The first rule that fails, of the enabled mods in the profile's order and of each mod's rules in
+/// theirs. A rule matches where the mod that it refers to is enabled and, if the rule has a range,
+/// has a release that the range matches. `Missing` is for a `requires` that doesn't match, and
+/// `Conflict` for a `conflicts` that matches another mod. Rules of disabled mods don't count.
 pub fn check_rules(_alloc: Global, profile: &Profile) -> Result<(), RuleError>
     ensures ok { OnOk result (first_failing_rule profile.now ≡ None) }
-    ensures err { IfErr result (λ e. Explains e (first_failing_rule profile.now)) }
+    ensures err { IfErr result (Explains RuleError.Memory
+        (option_map error_of (first_failing_rule profile.now))) }
 {
     let mods = profile.mods();
     for (id, entry) in mods {

@@ -25,8 +25,8 @@ fn edge_of(
     ensures { result ≡ rule_pair mods.now.entries node rule.now }
 {
     match rule.kind() {
-        RuleKind::Before => Some((node, node_of(mods, counts, rule.refers())?)),
-        RuleKind::After => Some((node_of(mods, counts, rule.refers())?, node)),
+        RuleKind::Before => Some((node, node_of(mods, counts, rule)?)),
+        RuleKind::After => Some((node_of(mods, counts, rule)?, node)),
         RuleKind::Requires | RuleKind::Conflicts | RuleKind::Recommends => None,
     }
 }
@@ -40,7 +40,9 @@ fn add_edges(
     edges: &mut BTreeSet<(u32, u32)>,
 ) -> Result<(), AllocError>
     requires { counts.now ≡ counts_before 0 mods.now.entries }
-    ensures { OnOk result ((q : ℕ × ℕ) → contains edge_cmp edges.new q ≡ (contains edge_cmp edges.old q || list_any (λ e. is_edge e q) (filter_map (rule_pair mods.now.entries node) rules.now))) }
+    ensures { OnOk result ((q : ℕ × ℕ) → contains edge_cmp edges.new q
+        ≡ (contains edge_cmp edges.old q
+        || list_any (λ e. is_edge e q) (filter_map (rule_pair mods.now.entries node) rules.now))) }
 {
     for rule in rules {
         if let Some(edge) = edge_of(mods, counts, node, rule) {
@@ -58,12 +60,15 @@ fn listed(alloc: Global, edges: BTreeSet<(u32, u32)>) -> Result<Vec<(u32, u32)>,
     edges.into_iter().collect(alloc)
 }
 
-/// The graph of the profile's enabled mods. There is an edge from a mod to another exactly where one of the two has a rule that
-/// asks for it: the first has `before` the second, or the second has `after` the first.
+/// The graph of the profile's enabled mods. There is an edge from a mod to another exactly where one
+/// of the two has a rule that asks for it: the first has `before` the second, or the second has
+/// `after` the first. A rule with a range asks only where the mod that it refers to has a release
+/// that the range matches.
 pub fn graph_of(alloc: Global, profile: &Profile) -> Result<Graph, AllocError>
     requires { length (nodes_of profile.now) < 2 ^ 32 }
     ensures count { IfOk result (λ graph. graph.count ≡ length (nodes_of profile.now)) }
-    ensures edges { IfOk result (λ graph. (a b : ℕ) → Contains graph.edges (a, b) ↔ IsEdge (nodes_of profile.now) a b) }
+    ensures edges { IfOk result (λ graph. (a b : ℕ) → Contains graph.edges (a, b)
+        ↔ IsEdge (nodes_of profile.now) a b) }
 {
     let mods = profile.mods();
     let counts = counts_before(alloc, mods)?;
@@ -76,5 +81,5 @@ pub fn graph_of(alloc: Global, profile: &Profile) -> Result<Graph, AllocError>
         }
     }
     let edges = listed(alloc, edges)?;
-    Ok(Graph::of(count, edges))
+    Ok(Graph { count, edges })
 }

@@ -5,14 +5,14 @@ use std::alloc::AllocError;
 /// The first rule that fails.
 #[derive(Debug, Drop)]
 pub enum RuleError {
-    /// The mod requires one that isn't enabled.
+    /// The mod requires one that isn't enabled, or isn't in the release that is asked for.
     Missing {
         /// The mod with the rule.
         mod_id: ModId,
-        /// The mod that isn't enabled.
+        /// The mod that it requires.
         needs: ModId,
     },
-    /// The mod conflicts with another that is enabled.
+    /// The mod conflicts with another that is enabled, in the release that it has.
     Conflict {
         /// The mod with the rule.
         mod_id: ModId,

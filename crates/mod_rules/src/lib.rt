@@ -1,4 +1,5 @@
-//! The rules of a profile's enabled mods: which mods have to load before which, and the first rule that fails.
+//! The rules of a profile's enabled mods: which mods have to load before which, and the first rule
+//! that fails. The tests are in `tests.rt`.
 #![tactic(auto)]
 
 mod checks;

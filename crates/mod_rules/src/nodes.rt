@@ -1,10 +1,10 @@
-// The enabled mods, and the node of an id.
+// The enabled mods, and the one that a rule matches.
 ghost use Rattle.std.specs.Prelude.{◌≡◌, ◌<◌, ◌^◌, length, IfOk};
-ghost use Rattle.mod_rules.specs.Nodes.{enabled_of, is_enabled};
+ghost use Rattle.mod_rules.specs.Nodes.{enabled_of, is_met_by, is_matching};
 ghost use Rattle.mod_rules.specs.Pairs.{counts_before, node_of};
 
 use indexmap::IndexMap;
-use profile_toml::ModEntry;
+use profile_toml::{ModEntry, Rule};
 use rel_paths::ModId;
 use std::alloc::{AllocError, Global};
 
@@ -27,25 +27,32 @@ pub(crate) fn counts_before(
     Ok(counts)
 }
 
-// The node of the mod with this id, if it is enabled.
-pub(crate) fn node_of(mods: &IndexMap<ModId, ModEntry>, counts: &[u32], id: &ModId) -> Option<u32>
-    requires { counts.now ≡ counts_before 0 mods.now.entries }
-    ensures { result ≡ node_of 0 id.now mods.now.entries }
+// Whether the mod is enabled and, if the rule has a range, has a release that the range matches.
+fn is_met_by(rule: &Rule, entry: &ModEntry) -> bool
+    ensures { result ≡ is_met_by rule.now entry.now }
 {
-    let (place, _, entry) = mods.get_full(id)?;
-    if entry.is_enabled() {
+    entry.is_enabled() && rule.admits(entry.release())
+}
+
+// The node of the mod that the rule matches.
+pub(crate) fn node_of(mods: &IndexMap<ModId, ModEntry>, counts: &[u32], rule: &Rule) -> Option<u32>
+    requires { counts.now ≡ counts_before 0 mods.now.entries }
+    ensures { result ≡ node_of 0 rule.now mods.now.entries }
+{
+    let (place, _, entry) = mods.get_full(rule.refers())?;
+    if is_met_by(rule, entry) {
         Some(counts[place])
     } else {
         None
     }
 }
 
-// Whether the mod with this id is enabled.
-pub(crate) fn is_enabled(mods: &IndexMap<ModId, ModEntry>, id: &ModId) -> bool
-    ensures { result ≡ is_enabled mods.now.entries id.now }
+// Whether the rule matches: the mod that it refers to is there, and meets it.
+pub(crate) fn is_matching(mods: &IndexMap<ModId, ModEntry>, rule: &Rule) -> bool
+    ensures { result ≡ is_matching mods.now.entries rule.now }
 {
-    match mods.get(id) {
-        Some(entry) => entry.is_enabled(),
+    match mods.get(rule.refers()) {
+        Some(entry) => is_met_by(rule, entry),
         None => false,
     }
 }

@@ -1,130 +1,134 @@
 // Graphs and first failing rules of small profiles.
 use crate::{Graph, RuleError, check_rules, graph_of};
-use profile_toml::{ModEntry, Profile, Rule, RuleKind};
-use rel_paths::ModId;
+use profile_toml::{Profile, read_profile};
 use std::process::Abort;
 
-fn id_of(rt: &(impl AllocGlobal + Abort), text: &str) -> ModId {
-    ModId::parse(rt.alloc(), text).expect(rt, "an id")
+// The profile whose mods have these items.
+fn profile_of(rt: &(impl AllocGlobal + Abort), items: &str) -> Profile {
+    let text = format!(in rt.alloc(); "version = 2\nmods = [{items}]").expect(rt, "memory");
+    read_profile(rt.alloc(), text.as_bytes()).expect(rt, "a profile")
 }
 
-fn add_rule(
-    rt: &(impl AllocGlobal + Abort),
-    profile: &mut Profile,
-    id: &str,
-    kind: RuleKind,
-    refers: &str,
-) {
-    let id = id_of(rt, id);
-    let rule = Rule::plain(rt.alloc(), kind, id_of(rt, refers));
-    if let Some(entry) = profile.mods.get_mut(&id) {
-        assert!(rt; entry.rules.push(rule).is_ok());
-    }
-}
-
-// The profile with these mods, each enabled or not, and these rules, each of the first mod and about the second.
-fn profile_of(
-    rt: &(impl AllocGlobal + Abort),
-    mods: &[(&str, bool)],
-    rules: &[(&str, RuleKind, &str)],
-) -> Profile {
-    let mut profile = Profile::plain(rt.alloc());
-    for (id, enabled) in mods {
-        let entry = ModEntry::plain(rt.alloc(), *enabled);
-        assert!(rt; profile.mods.insert(id_of(rt, *id), entry).is_ok());
-    }
-    for (id, kind, refers) in rules {
-        add_rule(rt, &mut profile, *id, *kind, *refers);
-    }
-    profile
-}
-
-fn graph(rt: &(impl AllocGlobal + Abort), profile: &Profile) -> Graph {
+fn graph(rt: &(impl AllocGlobal + Abort), items: &str) -> Graph {
+    let profile = profile_of(rt, items);
     assert!(rt; profile.mods().len() < 1000);
-    graph_of(rt.alloc(), profile).expect(rt, "memory")
+    graph_of(rt.alloc(), &profile).expect(rt, "memory")
 }
 
-fn is_missing(outcome: Result<(), RuleError>, from: &str, to: &str) -> bool {
-    match outcome {
+fn has_edges(rt: &(impl AllocGlobal + Abort), items: &str, edges: &[(u32, u32)]) -> bool {
+    graph(rt, items).edges.as_slice() == edges
+}
+
+fn holds(rt: &(impl AllocGlobal + Abort), items: &str) -> bool {
+    check_rules(rt.alloc(), &profile_of(rt, items)).is_ok()
+}
+
+fn is_missing(rt: &(impl AllocGlobal + Abort), items: &str, from: &str, to: &str) -> bool {
+    match check_rules(rt.alloc(), &profile_of(rt, items)) {
         Err(RuleError::Missing { mod_id, needs }) => mod_id.text() == from && needs.text() == to,
         _ => false,
     }
 }
 
-fn is_conflict(outcome: Result<(), RuleError>, from: &str, to: &str) -> bool {
-    match outcome {
+fn is_conflict(rt: &(impl AllocGlobal + Abort), items: &str, from: &str, to: &str) -> bool {
+    match check_rules(rt.alloc(), &profile_of(rt, items)) {
         Err(RuleError::Conflict { mod_id, other }) => mod_id.text() == from && other.text() == to,
         _ => false,
     }
 }
 
-#[test]
-fn a_rule_after_leads_from_the_other_mod(rt: HostRuntime) {
-    let mods = [("a", true), ("b", true)];
-    let profile = profile_of(&rt, &mods, &[("a", RuleKind::After, "b")]);
-    let graph = graph(&rt, &profile);
-    assert_eq!(&rt; graph.count(), 2);
-    assert_eq!(&rt; graph.edges(), [(1, 0)].as_slice());
+// Whether there is a graph with so many nodes and these edges.
+fn is_graph(rt: &(impl AllocGlobal + Abort), count: u32, edges: &[(u32, u32)]) -> bool {
+    let edges = edges.to_vec(rt.alloc()).expect(rt, "memory");
+    Graph::new(count, edges).is_some()
 }
 
 #[test]
-fn edges_of_a_cycle_ascend(rt: HostRuntime) {
-    let mods = [("a", true), ("b", true), ("c", true)];
-    let rules = [
-        ("a", RuleKind::After, "b"),
-        ("b", RuleKind::After, "c"),
-        ("c", RuleKind::After, "a"),
-    ];
-    let profile = profile_of(&rt, &mods, &rules);
-    let graph = graph(&rt, &profile);
-    assert_eq!(&rt; graph.edges(), [(0, 2), (1, 0), (2, 1)].as_slice());
+fn edges_of_a_graph_ascend_and_stay_within(rt: HostRuntime) {
+    assert!(&rt; is_graph(&rt, 0, &[]));
+    assert!(&rt; is_graph(&rt, 2, &[(0, 0), (0, 1), (1, 0)]));
+    assert!(&rt; !is_graph(&rt, 2, &[(0, 1), (0, 1)]));
+    assert!(&rt; !is_graph(&rt, 2, &[(1, 0), (0, 1)]));
+    assert!(&rt; !is_graph(&rt, 2, &[(0, 2)]));
+    assert!(&rt; !is_graph(&rt, 2, &[(2, 0)]));
 }
 
 #[test]
-fn two_rules_for_one_edge_count_once(rt: HostRuntime) {
-    let mods = [("a", true), ("off", false), ("b", true)];
-    let rules = [
-        ("a", RuleKind::Before, "b"),
-        ("b", RuleKind::After, "a"),
-        ("off", RuleKind::Before, "a"),
-        ("a", RuleKind::After, "off"),
-    ];
-    let profile = profile_of(&rt, &mods, &rules);
-    let graph = graph(&rt, &profile);
-    assert_eq!(&rt; graph.edges(), [(0, 1)].as_slice());
+fn edges_of_rules_ascend_and_count_once(rt: HostRuntime) {
+    let after = "{ id = 'a', rules = [{ kind = 'after', ref = 'b' }] }, { id = 'b' }";
+    assert_eq!(&rt; graph(&rt, after).count, 2);
+    assert!(&rt; has_edges(&rt, after, &[(1, 0)]));
+    let cycle = "{ id = 'a', rules = [{ kind = 'after', ref = 'b' }] },
+        { id = 'b', rules = [{ kind = 'after', ref = 'c' }] },
+        { id = 'c', rules = [{ kind = 'after', ref = 'a' }] }";
+    assert!(&rt; has_edges(&rt, cycle, &[(0, 2), (1, 0), (2, 1)]));
+    let twice = "{ id = 'a', rules = [{ kind = 'before', ref = 'b' }] },
+        { id = 'b', rules = [{ kind = 'after', ref = 'a' }] }";
+    assert!(&rt; has_edges(&rt, twice, &[(0, 1)]));
+}
+
+#[test]
+fn disabled_and_absent_mods_have_no_edges(rt: HostRuntime) {
+    let disabled = "{ id = 'a', rules = [{ kind = 'after', ref = 'off' }] },
+        { id = 'off', enabled = false, rules = [{ kind = 'before', ref = 'a' }] }, { id = 'b' }";
+    assert_eq!(&rt; graph(&rt, disabled).count, 2);
+    assert!(&rt; has_edges(&rt, disabled, &[]));
+    let absent = "{ id = 'a', rules = [{ kind = 'before', ref = 'z' },
+        { kind = 'conflicts', ref = 'z' }] }";
+    assert!(&rt; has_edges(&rt, absent, &[]));
+    assert!(&rt; holds(&rt, absent));
 }
 
 #[test]
 fn a_required_mod_has_to_be_enabled(rt: HostRuntime) {
-    let rules = [("a", RuleKind::Requires, "b")];
-    let profile = profile_of(&rt, &[("a", true), ("b", false)], &rules);
-    assert!(&rt; is_missing(check_rules(rt.alloc(), &profile), "a", "b"));
-    let profile = profile_of(&rt, &[("a", true), ("b", true)], &rules);
-    assert!(&rt; check_rules(rt.alloc(), &profile).is_ok());
-}
-
-#[test]
-fn rules_about_an_absent_mod_do_nothing(rt: HostRuntime) {
-    let rules = [
-        ("a", RuleKind::Before, "z"),
-        ("a", RuleKind::Conflicts, "z"),
-    ];
-    let profile = profile_of(&rt, &[("a", true)], &rules);
-    assert!(&rt; check_rules(rt.alloc(), &profile).is_ok());
-    let graph = graph(&rt, &profile);
-    assert_eq!(&rt; graph.count(), 1);
-    assert!(&rt; graph.edges().is_empty());
+    let disabled = "{ id = 'a', rules = [{ kind = 'requires', ref = 'b' }] },
+        { id = 'b', enabled = false }";
+    assert!(&rt; is_missing(&rt, disabled, "a", "b"));
+    let enabled = "{ id = 'a', rules = [{ kind = 'requires', ref = 'b' }] }, { id = 'b' }";
+    assert!(&rt; holds(&rt, enabled));
 }
 
 #[test]
 fn the_first_failing_rule_is_told(rt: HostRuntime) {
-    let mods = [("off", false), ("a", true), ("b", true)];
-    let rules = [
-        ("off", RuleKind::Requires, "w"),
-        ("b", RuleKind::Requires, "x"),
-        ("a", RuleKind::Conflicts, "b"),
-        ("a", RuleKind::Requires, "y"),
-    ];
-    let profile = profile_of(&rt, &mods, &rules);
-    assert!(&rt; is_conflict(check_rules(rt.alloc(), &profile), "a", "b"));
+    let mods = "{ id = 'off', enabled = false, rules = [{ kind = 'requires', ref = 'w' }] },
+        { id = 'a', rules = [{ kind = 'conflicts', ref = 'a' }, { kind = 'conflicts', ref = 'b' },
+            { kind = 'requires', ref = 'y' }] },
+        { id = 'b', rules = [{ kind = 'requires', ref = 'x' }] }";
+    assert!(&rt; is_conflict(&rt, mods, "a", "b"));
+}
+
+#[test]
+fn a_range_asks_for_a_release_that_it_matches(rt: HostRuntime) {
+    let matched = "{ id = 'base', release = '1.4.0' },
+        { id = 'patch', rules = [{ kind = 'requires', ref = 'base', range = '^1.2' }] }";
+    assert!(&rt; holds(&rt, matched));
+    assert!(&rt; has_edges(&rt, matched, &[]));
+    let higher = "{ id = 'base', release = '1.4.0' },
+        { id = 'patch', rules = [{ kind = 'requires', ref = 'base', range = '^2' }] }";
+    assert!(&rt; is_missing(&rt, higher, "patch", "base"));
+    let none = "{ id = 'base' },
+        { id = 'patch', rules = [{ kind = 'requires', ref = 'base', range = '^1.2' }] }";
+    assert!(&rt; is_missing(&rt, none, "patch", "base"));
+}
+
+#[test]
+fn a_conflict_with_a_range_is_with_what_it_matches(rt: HostRuntime) {
+    let matched = "{ id = 'a', rules = [{ kind = 'conflicts', ref = 'b', range = '<2' }] },
+        { id = 'b', release = '1.9.9' }";
+    assert!(&rt; is_conflict(&rt, matched, "a", "b"));
+    let higher = "{ id = 'a', release = '1.0.0',
+        rules = [{ kind = 'conflicts', ref = 'b', range = '<2' }] }, { id = 'b', release = '2.0.0' }";
+    assert!(&rt; holds(&rt, higher));
+}
+
+#[test]
+fn an_edge_goes_by_the_release_of_the_other_mod(rt: HostRuntime) {
+    let own = "{ id = 'a', release = '1.0.0',
+        rules = [{ kind = 'after', ref = 'b', range = '^1' }] }, { id = 'b', release = '2.0.0' }";
+    assert!(&rt; has_edges(&rt, own, &[]));
+    let other = "{ id = 'a', release = '2.0.0',
+        rules = [{ kind = 'after', ref = 'b', range = '^1' }] }, { id = 'b', release = '1.0.0' }";
+    assert!(&rt; has_edges(&rt, other, &[(1, 0)]));
+    let none = "{ id = 'a', rules = [{ kind = 'before', ref = 'b', range = '*' }] }, { id = 'b' }";
+    assert!(&rt; has_edges(&rt, none, &[]));
 }

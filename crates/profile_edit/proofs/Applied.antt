@@ -8,15 +8,17 @@ use Rattle.std.specs.Str.{bytes_eq}
 use Rattle.std.proofs.lemmas.List.{map-append}
 use Rattle.std.proofs.lemmas.Map.Entries.{length-values_of}
 use Rattle.std.specs.Cmp.Lexicographic.{bytes_decides}
+use Rattle.list_laws.proofs.Lists.{longer}
+use Rattle.list_laws.proofs.Positions.{place-from_some}
 use Rattle.toml.specs.Data.{no_members}
 use Rattle.profile_toml.specs.declared.rule.RuleKind.{RuleKind}
-use Rattle.profile_toml.specs.Profiles.{plain_mod}
+use Rattle.profile_toml.specs.Plain.{plain_mod}
 use Rattle.profile_toml.specs.Records.{ProfileData, ModData, OverrideData, AreAtTheirPaths}
 use Rattle.profile_edit.specs.declared.error.EditError.{EditError}
 use Rattle.profile_edit.specs.declared.error.EditError.TheVariants.{TooMany, NoMod, SameRule, NoRule, NoOverride}
-use Rattle.profile_edit.specs.Parts.{value_at, with_value, with_enabled, with_rule, without_rule, with_mod_id, is_rule, has_rule}
+use Rattle.profile_edit.specs.Parts.{value_at, with_value, with_enabled, with_rule, without_rule, with_release, with_mod_id, is_rule, has_rule}
 use Rattle.profile_edit.specs.Edits.{Applies, fault_if, enable_fault, no_mod_fault, add_fault, drop_fault, no_override_fault, mods_enabled, overrides_set, overrides_dropped}
-use Rattle.profile_edit.proofs.Values.{with_value-Some, enabled_differs, disabled_differs, rule_differs, no_rule_differs, place_is, longer, differs, stays}
+use Rattle.profile_edit.proofs.Values.{with_value-Some, enabled_differs, disabled_differs, rule_differs, no_rule_differs, differs, stays}
 use Rattle.profile_edit.proofs.Keyed.{keyed_again, same_entries, keyed-with_value}
 
 record Was (o : Option ModData) (was : Bool) : Type 0 where
@@ -27,10 +29,6 @@ record Was (o : Option ModData) (was : Bool) : Type 0 where
 was_there : (o : Option ModData) (was : Bool) → Some was ≡ option_map (λ m. m.enabled) o → Was o was
 was_there None was h = cc
 was_there (Some m) was h = record { entry = m; there = refl; is = cc }
-
-pub not_there : {X Y : Type 0} (f : X → Y) (o : Option X) → None ≡ option_map f o → o ≡ None
-not_there f None h = refl
-not_there f (Some x) h = cc
 
 not_below : (a b : ℕ) → b ≤ a → nat_lt a b ≡ false
 not_below a b h = grind arith
@@ -73,12 +71,38 @@ pub rule_dropped : (id : List ℕ) (kind : RuleKind) (refers : List ℕ) (mods n
     → new ≡ with_value id (λ x. record x { rules = remove x.rules i }) mods → Applies (drop_fault id kind refers mods) mods (with_value id (without_rule kind refers) mods) new (Ok true)
 rule_dropped id kind refers mods new m i there at is =
     let same = is ∙ with_value-Some id (λ x. record x { rules = remove x.rules i }) mods m there
-    ∙ ap (λ k. set_value (bytes_eq id) mods (record m { rules = remove m.rules k })) (place_is (is_rule kind refers) m.rules i at)
+    ∙ ap (λ k. set_value (bytes_eq id) mods (record m { rules = remove m.rules k })) (place-from_some (is_rule kind refers) m.rules i at)
     ∙ sym (with_value-Some id (without_rule kind refers) mods m there) in (
       ap (λ o. option_map_or (λ x. fault_if (not (has_rule kind refers x)) NoRule) o (Some (NoMod id))) there ∙ ap (λ o. fault_if (not (is_some o)) NoRule) at,
       same,
       λ e. no_rule_differs id kind refers mods m i there at (sym same ∙ e),
     )
+
+-- whether a mod has this release already
+there_already : (o : Option (Bor (List ℕ))) (release : List ℕ) → option_map_or (λ r. bytes_eq r.now release) o false ≡ true → option_map (λ r. r.now) o ≡ Some release
+there_already None release h = cc
+there_already (Some r) release h = ap Some ((bytes_decides r.now release).0 h)
+
+another : (o : Option (Bor (List ℕ))) (release : List ℕ) → option_map_or (λ r. bytes_eq r.now release) o false ≡ false → option_map (λ r. r.now) o ≢ Some release
+another None release h e = cc
+another (Some r) release h e = let bad : true ≡ false = sym ((bytes_decides r.now release).1 cc) ∙ h in cc
+
+pub release_same : (id release : List ℕ) (mods : List (List ℕ × ModData)) (m : ModData) (o : Option (Bor (List ℕ))) → value_at id mods ≡ Some m → option_map (λ r. r.now) o ≡ m.release
+    → option_map_or (λ r. bytes_eq r.now release) o false ≡ true → Applies (no_mod_fault id mods) mods (with_value id (with_release release) mods) mods (Ok false)
+release_same id release mods m o there is same =
+    let kept : m.release ≡ Some release = sym is ∙ there_already o release same in (
+      ap (λ x. fault_if (is_none x) (NoMod id)) there,
+      sym (stays id (with_release release) mods m there (λ i. record m { release = sym kept i })),
+      refl,
+    )
+
+pub release_set : (id release : List ℕ) (mods new : List (List ℕ × ModData)) (m : ModData) (o : Option (Bor (List ℕ))) → value_at id mods ≡ Some m → option_map (λ r. r.now) o ≡ m.release
+    → option_map_or (λ r. bytes_eq r.now release) o false ≡ false → new ≡ with_value id (with_release release) mods → Applies (no_mod_fault id mods) mods (with_value id (with_release release) mods) new (Ok true)
+release_set id release mods new m o there is other made = (
+  ap (λ x. fault_if (is_none x) (NoMod id)) there,
+  made,
+  λ e. differs id (with_release release) mods m there (λ same. another o release other (is ∙ sym (ap (λ x. x.release) same))) (sym made ∙ e),
+)
 
 -- ---- overrides
 
@@ -165,9 +189,3 @@ overrides_change p n false h = λ i. record p { overrides = h i }
 pub of_overrides : (p : ProfileData) (fault : Option EditError) (e n : List OverrideData) (r : Result Bool EditError) → Applies fault p.overrides e n r → Applies fault p (record p { overrides = e }) (record p { overrides = n }) r
 of_overrides p fault e n (Ok d) h = (h.0, (λ i. record p { overrides = h.1 i }), overrides_change p n d h.2)
 of_overrides p fault e n (Err x) h = (h.0, λ i. record p { overrides = h.1 i })
-
--- ---- results
-
-pub on_err : {A E P : Type 0} (r : Result A E) → P → OnErr r P
-on_err (Ok a) p = tt
-on_err (Err e) p = p

@@ -8,6 +8,9 @@ use Rattle.std.specs.Str.{bytes_eq}
 use Rattle.std.proofs.lemmas.Map.Steps.{set_value_same}
 use Rattle.std.proofs.lemmas.List.Edits.{length-remove}
 use Rattle.std.proofs.lemmas.List.Quantifiers.{position-Some}
+use Rattle.list_laws.proofs.Lists.{longer}
+use Rattle.list_laws.proofs.Lookups.{lookup-set_value}
+use Rattle.list_laws.proofs.Positions.{place-from_some, place_below}
 use Rattle.profile_toml.specs.declared.rule.RuleKind.{RuleKind}
 use Rattle.profile_toml.specs.Records.{ModData}
 use Rattle.profile_edit.specs.Parts.{value_at, with_value, with_enabled, with_rule, without_rule, is_rule}
@@ -17,16 +20,6 @@ with_value-None key f es none = ap (λ o. option_map_or (λ x. set_value (bytes_
 
 pub with_value-Some : {X : Type 0} (key : List ℕ) (f : X → X) (es : List (List ℕ × X)) (v : X) → value_at key es ≡ Some v → with_value key f es ≡ set_value (bytes_eq key) es (f v)
 with_value-Some key f es v some = ap (λ o. option_map_or (λ x. set_value (bytes_eq key) es (f x)) o es) some
-
-lookup-set_value : {X : Type 0} (t : List ℕ → Bool) (es : List (List ℕ × X)) (v w : X) → lookup t es ≡ Some v → lookup t (set_value t es w) ≡ Some w
-lookup-set_value t [] v w h = cc
-lookup-set_value t (e ∷ es) v w h = by (t e.0) refl (lookup-set_value t es v w)
-  where
-    by : (b : Bool) → t e.0 ≡ b → (lookup t es ≡ Some v → lookup t (set_value t es w) ≡ Some w) → lookup t (set_value t (e ∷ es) w) ≡ Some w
-    by true is rest = subst (λ b. lookup t (cond b ((e.0, w) ∷ es) (e ∷ set_value t es w)) ≡ Some w) (sym is) (ap (λ b. cond b (Some w) (lookup t es)) is)
-    by false is rest =
-        subst (λ b. lookup t (cond b ((e.0, w) ∷ es) (e ∷ set_value t es w)) ≡ Some w) (sym is)
-        (ap (λ b. cond b (Some e.1) (lookup t (set_value t es w))) is ∙ rest (sym (ap (λ b. cond b (Some e.1) (lookup t es)) is) ∙ h))
 
 pub stays : {X : Type 0} (key : List ℕ) (f : X → X) (es : List (List ℕ × X)) (v : X) → value_at key es ≡ Some v → f v ≡ v → with_value key f es ≡ es
 stays key f es v some same = with_value-Some key f es v some ∙ ap (set_value (bytes_eq key) es) same ∙ set_value_same (bytes_eq key) es v some
@@ -48,29 +41,13 @@ pub disabled_differs : (id : List ℕ) (mods : List (List ℕ × ModData)) (m : 
 disabled_differs id mods m true some is = differs id (with_enabled false) mods m some (λ e. let bad : false ≡ true = ap (λ x. x.enabled) e ∙ is in cc)
 disabled_differs id mods m false some is = stays id (with_enabled false) mods m some (λ i. record m { enabled = sym is i })
 
--- one more entry
-pub longer : {X : Type 0} (xs : List X) (x : X) → xs ++ x ∷ [] ≢ xs
-longer xs x e = omega (arith, ap length e, length-append xs (x ∷ []))
-
 pub rule_differs : (id : List ℕ) (kind : RuleKind) (refers : List ℕ) (mods : List (List ℕ × ModData)) (m : ModData) → value_at id mods ≡ Some m → with_value id (with_rule kind refers) mods ≢ mods
 rule_differs id kind refers mods m some = differs id (with_rule kind refers) mods m some (λ e. longer m.rules _ (ap (λ x. x.rules) e))
-
--- the place that a search gives
-pub place_is : {X : Type 0} (p : X → Bool) (xs : List X) (i : ℕ) → position p xs ≡ Some i → i ≡ position_or_len p xs
-place_is p xs i h = by (nat_lt (position_or_len p xs) (length xs)) h
-  where
-    by : (b : Bool) → cond b (Some (position_or_len p xs)) None ≡ Some i → i ≡ position_or_len p xs
-    by true e = cc
-    by false e = cc
-
-pub place_below : {X : Type 0} (p : X → Bool) (xs : List X) (i : ℕ) → position p xs ≡ Some i → i < length xs
-place_below p [] i h = cc
-place_below p (x ∷ xs) i h = (position-Some p (x ∷ xs) i x h).0
 
 pub no_rule_differs : (id : List ℕ) (kind : RuleKind) (refers : List ℕ) (mods : List (List ℕ × ModData)) (m : ModData) (i : ℕ) → value_at id mods ≡ Some m → position (is_rule kind refers) m.rules ≡ Some i
     → with_value id (without_rule kind refers) mods ≢ mods
 no_rule_differs id kind refers mods m i some at =
-    let is = place_is (is_rule kind refers) m.rules i at in
+    let is = place-from_some (is_rule kind refers) m.rules i at in
     let below : position_or_len (is_rule kind refers) m.rules < length m.rules = subst (λ k. k < length m.rules) is (place_below (is_rule kind refers) m.rules i at) in
     differs id (without_rule kind refers) mods m some
     (λ e. omega (arith, ap (λ x. length x.rules) e, length-remove m.rules (position_or_len (is_rule kind refers) m.rules) below))

@@ -1,2 +1,3 @@
 pub mod Parts
+pub mod Upgrades
 pub mod Edits

@@ -1,5 +1,5 @@
 // Edits.
-use profile_toml::RuleKind;
+use profile_toml::{Release, RuleKind};
 use rel_paths::{ModId, RelPath};
 
 /// An edit of a profile.
@@ -37,4 +37,13 @@ pub enum Edit {
     },
     /// The override of this path goes.
     DropOverride(RelPath),
+    /// The profile gets version 2, and stays as it is where it has that already.
+    Upgrade,
+    /// The mod gets a release, in a profile of version 2.
+    Release {
+        /// The mod.
+        mod_id: ModId,
+        /// The release.
+        release: Release,
+    },
 }

@@ -1,5 +1,5 @@
 // Why an edit is refused.
-use rel_paths::{ModId, RelPath};
+use rel_paths::{ModId, RelPath, Text};
 use std::alloc::AllocError;
 
 /// Why an edit is refused. The profile is then as before.
@@ -15,6 +15,10 @@ pub enum EditError {
     NoRule,
     /// The profile has no override of this path.
     NoOverride(RelPath),
+    /// At this key path a profile of version 1 has a key that version 2 has a meaning for.
+    KeyTaken(Text),
+    /// The profile has version 1, in which mods have no releases.
+    OldProfile,
     /// Memory ran out.
     Memory,
 }

@@ -1,7 +1,6 @@
 // Mods enabled and disabled.
-ghost use Rattle.std.specs.Prelude.{◌≡◌, None, true, false, IfOk, OnOk, OnErr};
+ghost use Rattle.std.specs.Prelude.{◌≡◌, None, true, false, is_some, IfOk};
 ghost use Rattle.std.specs.Option.{option_map};
-ghost use Rattle.profile_toml.specs.Profiles.{plain_mod};
 ghost use Rattle.profile_edit.specs.declared.error.EditError.TheVariants.{NoMod};
 ghost use Rattle.profile_edit.specs.Parts.{value_at, with_value, with_enabled};
 ghost use Rattle.profile_edit.specs.Edits.{Applies, mods_enabled, enable_fault, no_mod_fault};
@@ -16,6 +15,13 @@ pub(crate) fn no_mod(id: &ModId) -> Result<EditError, AllocError>
     ensures { IfOk result (λ e. e ≡ NoMod id.now) }
 {
     Ok(EditError::NoMod(id.copy()?))
+}
+
+// Whether the mod with this id is there.
+pub(crate) fn is_known(mods: &IndexMap<ModId, ModEntry>, id: &ModId) -> bool
+    ensures { result ≡ is_some (value_at id.now mods.now.entries) }
+{
+    mods.contains_key(id)
 }
 
 // Enables or disables the mod with this id, and tells whether it was enabled.
@@ -39,7 +45,8 @@ pub(crate) fn enable(
     id: &ModId,
     most_mods: u32,
 ) -> Result<bool, EditError>
-    ensures { Applies (enable_fault most_mods id.now mods.old.entries) mods.old.entries (mods_enabled id.now mods.old.entries) mods.new.entries result }
+    ensures { Applies (enable_fault most_mods id.now mods.old.entries) mods.old.entries
+        (mods_enabled id.now mods.old.entries) mods.new.entries result }
 {
     if let Some(was) = set_enabled(mods, id, true) {
         return Ok(!was);
@@ -55,7 +62,8 @@ pub(crate) fn enable(
 }
 
 pub(crate) fn disable(mods: &mut IndexMap<ModId, ModEntry>, id: &ModId) -> Result<bool, EditError>
-    ensures { Applies (no_mod_fault id.now mods.old.entries) mods.old.entries (with_value id.now (with_enabled false) mods.old.entries) mods.new.entries result }
+    ensures { Applies (no_mod_fault id.now mods.old.entries) mods.old.entries
+        (with_value id.now (with_enabled false) mods.old.entries) mods.new.entries result }
 {
     match set_enabled(mods, id, false) {
         Some(was) => Ok(was),

@@ -46,7 +46,9 @@ pub(crate) fn set_override(
 ) -> Result<bool, EditError>
     requires keyed { AreAtTheirPaths overrides.old.entries }
     requires user { IsUserPath path.now }
-    ensures result { Applies None (values_of overrides.old.entries) (overrides_set path.now id.now (values_of overrides.old.entries)) (values_of overrides.new.entries) result }
+    ensures result { Applies None (values_of overrides.old.entries)
+        (overrides_set path.now id.now (values_of overrides.old.entries))
+        (values_of overrides.new.entries) result }
     ensures keyed { AreAtTheirPaths overrides.new.entries }
 {
     match is_to(overrides.get(path), id) {
@@ -69,7 +71,10 @@ pub(crate) fn drop_override(
     path: &RelPath,
 ) -> Result<bool, EditError>
     requires { AreAtTheirPaths overrides.old.entries }
-    ensures result { Applies (no_override_fault path.now (values_of overrides.old.entries)) (values_of overrides.old.entries) (overrides_dropped path.now (values_of overrides.old.entries)) (values_of overrides.new.entries) result }
+    ensures result { Applies (no_override_fault path.now (values_of overrides.old.entries))
+        (values_of overrides.old.entries)
+        (overrides_dropped path.now (values_of overrides.old.entries))
+        (values_of overrides.new.entries) result }
     ensures keyed { AreAtTheirPaths overrides.new.entries }
 {
     if overrides.shift_remove(path).is_none() {

@@ -32,7 +32,9 @@ fn place_of(kind: RuleKind, refers: &ModId, rules: &[Rule]) -> Option<usize>
 
 // Adds a rule to the mod with this id, last.
 fn push_rule(mods: &mut IndexMap<ModId, ModEntry>, id: &ModId, rule: Rule) -> Result<(), AllocError>
-    ensures ok { OnOk result (mods.new.entries ≡ with_value id.now (λ m. record m { rules = m.rules ++ rule ∷ [] }) mods.old.entries) }
+    ensures ok { OnOk result
+        (mods.new.entries
+        ≡ with_value id.now (λ m. record m { rules = m.rules ++ rule ∷ [] }) mods.old.entries) }
     ensures err { OnErr result (mods.new.entries ≡ mods.old.entries) }
 {
     match mods.get_mut(id) {
@@ -47,7 +49,8 @@ fn push_rule(mods: &mut IndexMap<ModId, ModEntry>, id: &ModId, rule: Rule) -> Re
 // Takes the rule at a place out of the mod with this id.
 fn remove_rule(mods: &mut IndexMap<ModId, ModEntry>, id: &ModId, place: usize)
     requires { IfSome (value_at id.now mods.old.entries) (λ m. place < length m.rules) }
-    ensures { mods.new.entries ≡ with_value id.now (λ m. record m { rules = remove m.rules place }) mods.old.entries }
+    ensures { mods.new.entries
+        ≡ with_value id.now (λ m. record m { rules = remove m.rules place }) mods.old.entries }
 {
     if let Some(entry) = mods.get_mut(id) {
         entry.rules.remove(place);
@@ -61,7 +64,8 @@ pub(crate) fn add_rule(
     kind: RuleKind,
     refers: &ModId,
 ) -> Result<bool, EditError>
-    ensures { Applies (add_fault id.now kind refers.now mods.old.entries) mods.old.entries (with_value id.now (with_rule kind refers.now) mods.old.entries) mods.new.entries result }
+    ensures { Applies (add_fault id.now kind refers.now mods.old.entries) mods.old.entries
+        (with_value id.now (with_rule kind refers.now) mods.old.entries) mods.new.entries result }
 {
     let Some(entry) = mods.get(id) else {
         return Err(no_mod(id)?);
@@ -80,7 +84,9 @@ pub(crate) fn drop_rule(
     kind: RuleKind,
     refers: &ModId,
 ) -> Result<bool, EditError>
-    ensures { Applies (drop_fault id.now kind refers.now mods.old.entries) mods.old.entries (with_value id.now (without_rule kind refers.now) mods.old.entries) mods.new.entries result }
+    ensures { Applies (drop_fault id.now kind refers.now mods.old.entries) mods.old.entries
+        (with_value id.now (without_rule kind refers.now) mods.old.entries)
+        mods.new.entries result }
 {
     let Some(entry) = mods.get(id) else {
         return Err(no_mod(id)?);

@@ -1,5 +1,5 @@
 -- Members, without some, and what stands in them.
-use Rattle.std.proofs.Common.{◌≡◌, ◌≤◌, ℕ, suc, Bool, true, false, cond, ◌||◌, max, List, [], ◌∷◌, Option, None, Some, Ordering, Less, Equal, Greater, is_eq, nat_cmp, refl, ap, sym, subst, ◌∙◌, arith}
+use Rattle.std.proofs.Common.{◌≡◌, ◌≤◌, ℕ, suc, Bool, true, false, cond, ◌||◌, max, List, [], ◌∷◌, ◌++◌, codes, nat_eq, if◌then◌else◌, is_some, Option, None, Some, Ordering, Less, Equal, Greater, is_eq, nat_cmp, refl, ap, sym, subst, ◌∙◌, arith}
 use Rattle.std.proofs.lemmas.Map.Text.{is_eq-slice_cmp}
 use Rattle.std.specs.List.{AllByRecursion}
 use Rattle.std.specs.Ordering.{match_ordering}
@@ -14,7 +14,8 @@ use Rattle.toml.specs.Data.{Data, string, integer, float, boolean, datetime, arr
 use Rattle.profile_toml.specs.Levels.{levels, items_levels, members_levels}
 use Rattle.profile_toml.specs.Floats.{has_float, items_have_float, members_have_float}
 use Rattle.profile_toml.specs.Sound.{IsSound, AreSound}
-use Rattle.profile_toml.specs.Unknown.{without_key, without, HaveNone, AreUnknown}
+use Rattle.profile_toml.specs.Tables.{Table, Document, OfType, OfMod, OfRule, OfOverride, known_keys, room, from_2, member_from_2}
+use Rattle.profile_toml.specs.Unknown.{without_key, without, unknown_in, HaveNone, AreUnknown}
 use Rattle.profile_toml.specs.Texts.{list_of}
 
 -- the same key is the same text
@@ -126,9 +127,10 @@ AreSound-without most [] ms h = h
 AreSound-without most (k ∷ ks) ms h = AreSound-without most ks (without_key k ms) (AreSound-without_key most k ms h)
 
 -- the unknown members of a sound table
-pub AreUnknown-without : (most : ℕ) (ks : List (List ℕ)) (ms : Members) → AreSound most ms → AreUnknown ks most (without ks ms)
-AreUnknown-without most ks ms h =
-    let sound = AreSound-without most ks ms h in
+pub AreUnknown-in : (version : ℕ) (at : Table) (ms : Members) → AreSound (room at) ms → AreUnknown version at (unknown_in version at ms)
+AreUnknown-in version at ms h =
+    let ks = known_keys version at in
+    let sound = AreSound-without (room at) ks ms h in
     record { others = HaveNone-without ks ms; shallow = sound.shallow; no_floats = sound.no_floats }
 
 pub AreSound-table : (most : ℕ) (ms : Members) → IsSound (suc most) (table ms) → AreSound most ms
@@ -165,3 +167,47 @@ AllSound-array most (item d ds) h =
 pub IsSound-taken : (most : ℕ) (k : List ℕ) (ms : Members) (r : Option Value) → option_map view r ≡ get_member k ms → AreSound most ms → IfSome r (λ v. IsSound most (view v))
 IsSound-taken most k ms None h sound = tt
 IsSound-taken most k ms (Some v) h sound = IsSound-at most k (view v) ms (sym h) sound
+
+-- the same of a key that version 1 has no meaning for
+pub IsSound-taken_from_2 : (most version : ℕ) (k : List ℕ) (ms : Members) (r : Option Value) → option_map view r ≡ member_from_2 version k ms → AreSound most ms → IfSome r (λ v. IsSound most (view v))
+IsSound-taken_from_2 most version k ms r h sound = by_version (nat_eq version 1) h
+  where
+    by_version : (b : Bool) → option_map view r ≡ (if b then None else get_member k ms) → IfSome r (λ v. IsSound most (view v))
+    by_version true none = nothing r none
+      where
+        nothing : (q : Option Value) → option_map view q ≡ None → IfSome q (λ v. IsSound most (view v))
+        nothing None none = tt
+        nothing (Some v) none = absurd (some_none (view v) none)
+    by_version false h = IsSound-taken most k ms r h sound
+
+-- a key of a later version, where other keys were taken
+pub member_from_2-is : (version : ℕ) (k : List ℕ) (ns ms : Members) → get_member k ns ≡ get_member k ms → member_from_2 version k ns ≡ member_from_2 version k ms
+member_from_2-is version k ns ms h = ap (λ o. if nat_eq version 1 then None else o) h
+
+pub AreSound-from_2 : (most version : ℕ) (k : List ℕ) (ms : Members) → AreSound most ms → AreSound most (without (from_2 version (k ∷ [])) ms)
+AreSound-from_2 most version k ms h = AreSound-without most (from_2 version (k ∷ [])) ms h
+
+older_at : (b : Bool) (ks ls : List (List ℕ)) (ms : Members) → HaveNone ((if b then [] else ks) ++ ls) ms → HaveNone ls ms
+older_at true ks ls ms h = h
+older_at false [] ls ms h = h
+older_at false (k ∷ ks) ls ms h = older_at false ks ls ms h.1
+
+-- what a version has no meaning for, version 1 has none for either
+pub unknown_to_1 : (version : ℕ) (at : Table) (ms : Members) → AreUnknown version at ms → AreUnknown 1 at ms
+unknown_to_1 version Document ms h = record {
+  others = (h.others.0, older_at (nat_eq version 1) (codes "fold" ∷ codes "types" ∷ []) (codes "mods" ∷ codes "overrides" ∷ []) ms h.others.1);
+  shallow = h.shallow;
+  no_floats = h.no_floats;
+}
+unknown_to_1 version OfType ms h = record { others = h.others; shallow = h.shallow; no_floats = h.no_floats }
+unknown_to_1 version OfMod ms h = record {
+  others = (h.others.0, (h.others.1.0, older_at (nat_eq version 1) (codes "release" ∷ codes "type" ∷ []) (codes "rules" ∷ []) ms h.others.1.1));
+  shallow = h.shallow;
+  no_floats = h.no_floats;
+}
+unknown_to_1 version OfRule ms h = record { others = (h.others.0, (h.others.1.0, tt)); shallow = h.shallow; no_floats = h.no_floats }
+unknown_to_1 version OfOverride ms h = record { others = h.others; shallow = h.shallow; no_floats = h.no_floats }
+
+pub viewed : (r : Option Value) → is_some (option_map view r) ≡ is_some r
+viewed None = refl
+viewed (Some v) = refl

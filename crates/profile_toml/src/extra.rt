@@ -1,13 +1,14 @@
 // The unknown keys of a table.
-ghost use Rattle.std.specs.Prelude.{◌≡◌};
-ghost use Rattle.toml.specs.Data.{no_members};
+ghost use Rattle.std.specs.Prelude.{◌≡◌, is_some};
+ghost use Rattle.toml.specs.Data.{no_members, get_member};
 ghost use Rattle.toml.specs.View.{table_view};
 
 use std::alloc::Global;
 use std::marker::Model;
 use toml::Table;
 
-/// The unknown keys of a table and their values, which edits keep. A contract sees them as members, in the order of the keys' bytes.
+/// The unknown keys of a table and their values, which edits keep. A contract sees them as members,
+/// in the order of the keys' bytes.
 #[derive(Drop)]
 pub struct Extra {
     table: Table,
@@ -27,7 +28,7 @@ impl Model for Extra {
 }
 
 impl Extra {
-    /// No keys.
+    /// No keys. It takes no memory.
     pub fn none(alloc: Global) -> Extra
         ensures { result ≡ no_members }
     {
@@ -40,6 +41,13 @@ impl Extra {
         ensures { result ≡ table_view table }
     {
         Extra { table }
+    }
+
+    /// Whether there is a value at the key.
+    pub fn has(&self, key: &str) -> bool
+        ensures { result ≡ is_some (get_member key.now self.now) }
+    {
+        self.table.contains_key(key)
     }
 
     pub(crate) fn into_table(self) -> Table

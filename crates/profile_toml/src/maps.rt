@@ -1,9 +1,9 @@
-// New entries of the two maps.
+// New entries of maps and lists.
 ghost use Rattle.std.specs.Prelude.{◌≡◌, ◌++◌, ◌∷◌, [], None, OnOk, nat_eq};
 ghost use Rattle.std.specs.Cmp.Lexicographic.{pointwise};
 ghost use Rattle.indexmap.specs.IndexMap.{get};
 
-use crate::{ModEntry, Override};
+use crate::{ModEntry, ModType, Override, Rule};
 use indexmap::IndexMap;
 use rel_paths::{ModId, RelPath};
 use std::alloc::AllocError;
@@ -32,6 +32,29 @@ pub(crate) fn add_override(
 {
     match overrides.insert(path, entry) {
         Ok(_) => Ok(()),
+        Err(_) => Err(AllocError),
+    }
+}
+
+pub(crate) fn add_type(
+    types: &mut IndexMap<ModId, ModType>,
+    id: ModId,
+    entry: ModType,
+) -> Result<(), AllocError>
+    requires { get (pointwise nat_eq) types.old id ≡ None }
+    ensures { OnOk result (types.new.entries ≡ types.old.entries ++ (id, entry) ∷ []) }
+{
+    match types.insert(id, entry) {
+        Ok(_) => Ok(()),
+        Err(_) => Err(AllocError),
+    }
+}
+
+pub(crate) fn add_rule(rules: &mut Vec<Rule>, rule: Rule) -> Result<(), AllocError>
+    ensures { OnOk result (rules.new.items ≡ rules.old.items ++ rule ∷ []) }
+{
+    match rules.push(rule) {
+        Ok(()) => Ok(()),
         Err(_) => Err(AllocError),
     }
 }

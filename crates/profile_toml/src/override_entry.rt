@@ -1,7 +1,7 @@
 // Overrides.
 ghost use Rattle.std.specs.Prelude.{◌≡◌};
 ghost use Rattle.rel_paths.specs.Names.{IsUserPath};
-ghost use Rattle.toml.specs.Data.{no_members};
+ghost use Rattle.profile_toml.specs.Plain.{plain_override};
 
 use crate::Extra;
 use rel_paths::{ModId, RelPath};
@@ -24,18 +24,19 @@ impl Model for Override {
     ghost coded = { override_code };
 
     ghost use Rattle.rel_paths.specs.Names.{IsUserPath};
-    ghost use Rattle.profile_toml.specs.Unknown.{AreUnknown, override_keys};
+    ghost use Rattle.profile_toml.specs.Tables.{OfOverride};
+    ghost use Rattle.profile_toml.specs.Unknown.{AreUnknown};
 
     ghost view = { λ a. record { path = a.path; mod_id = a.mod_id; extra = a.extra } };
 
-    ghost invariant = { λ a. IsUserPath a.path × AreUnknown override_keys 61 a.extra };
+    ghost invariant = { λ a. IsUserPath a.path × AreUnknown 1 OfOverride a.extra };
 }
 
 impl Override {
-    /// An override without unknown keys.
+    /// An override without unknown keys. It takes no memory.
     pub fn plain(alloc: Global, path: RelPath, mod_id: ModId) -> Override
         requires { IsUserPath path }
-        ensures { result ≡ record { path = path; mod_id = mod_id; extra = no_members } }
+        ensures { result ≡ plain_override path mod_id }
     {
         Override {
             path,

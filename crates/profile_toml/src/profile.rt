@@ -1,23 +1,26 @@
 // Profiles.
-ghost use Rattle.std.specs.Prelude.{◌≡◌, [], map, nat_eq, IfOk};
+ghost use Rattle.std.specs.Prelude.{◌≡◌, map, nat_eq, IfOk};
 ghost use Rattle.std.specs.List.{IsDistinct};
 ghost use Rattle.std.specs.Cmp.Lexicographic.{pointwise};
-ghost use Rattle.toml.specs.Data.{no_members};
+ghost use Rattle.profile_toml.specs.Kept.{Fits};
 ghost use Rattle.profile_toml.specs.Records.{AreAtTheirPaths};
-ghost use Rattle.profile_toml.specs.Profiles.{default_value};
+ghost use Rattle.profile_toml.specs.Plain.{plain_profile, default_value};
 
 use crate::maps::add_mod;
-use crate::{Extra, ModEntry, Override};
+use crate::{Extra, ModEntry, ModType, Override};
 use indexmap::IndexMap;
 use rel_paths::{ModId, RelPath};
 use std::alloc::{AllocError, Global};
 use std::marker::Model;
 
-/// A profile: mods by their ids and overrides by their paths, each in their order.
+/// A profile: its version, which is 1 or 2, mods by their ids and overrides by their paths, each in
+/// their order, and types of mods. With version 1 there are no types, releases and ranges.
 #[derive(Drop)]
 pub struct Profile {
+    pub version: u32,
     pub mods: IndexMap<ModId, ModEntry>,
     pub overrides: IndexMap<RelPath, Override>,
+    pub types: Vec<ModType>,
     pub extra: Extra,
 }
 
@@ -29,22 +32,40 @@ impl Model for Profile {
 
     ghost coded = { profile_code };
 
+    ghost use Rattle.profile_toml.specs.Kept.{Fits};
     ghost use Rattle.profile_toml.specs.Records.{AreAtTheirPaths};
-    ghost use Rattle.profile_toml.specs.Unknown.{AreUnknown, profile_keys};
 
-    ghost view = { λ a. record { mods = a.mods.entries; overrides = map (λ e. e.1) a.overrides.entries; extra = a.extra } };
+    ghost view = { λ
+        a. record {
+          version = a.version;
+          mods = a.mods.entries;
+          overrides = map (λ e. e.1)
+              a.overrides.entries;
+          types = a.types.items;
+          extra = a.extra;
+        } };
 
-    ghost invariant = { λ a. AreAtTheirPaths a.overrides.entries × AreUnknown profile_keys 63 a.extra };
+    ghost invariant = { λ a. AreAtTheirPaths a.overrides.entries
+        × Fits (record {
+          version = a.version;
+          mods = a.mods.entries;
+          overrides = map (λ e. e.1)
+              a.overrides.entries;
+          types = a.types.items;
+          extra = a.extra;
+        }) };
 }
 
 impl Profile {
-    /// A profile without mods, overrides and unknown keys.
+    /// A profile of version 1 without mods, overrides and unknown keys. It takes no memory.
     pub fn plain(alloc: Global) -> Profile
-        ensures { result ≡ record { mods = []; overrides = []; extra = no_members } }
+        ensures { result ≡ plain_profile }
     {
         Profile {
+            version: 1,
             mods: IndexMap::new(alloc),
             overrides: IndexMap::new(alloc),
+            types: Vec::new(alloc),
             extra: Extra::none(alloc),
         }
     }
@@ -63,9 +84,24 @@ impl Profile {
     {
         &self.overrides
     }
+
+    /// The version. What the profile has by it is told as `fits`.
+    pub fn version(&self) -> u32
+        ensures same { result ≡ self.now.version }
+        ensures fits { Fits self.now }
+    {
+        self.version
+    }
+
+    /// The types of mods, in order.
+    pub fn types(&self) -> &[ModType]
+        ensures { result.now ≡ self.now.types }
+    {
+        self.types.as_slice()
+    }
 }
 
-/// The profile of these mods in this order, all enabled, without rules and overrides.
+/// The profile of version 1 of these mods in this order, all enabled, without rules and overrides.
 pub fn default_profile(alloc: Global, ids: Vec<ModId>) -> Result<Profile, AllocError>
     requires { IsDistinct (pointwise nat_eq) ids.items }
     ensures { IfOk result (λ p. p ≡ default_value ids.items) }
@@ -75,8 +111,10 @@ pub fn default_profile(alloc: Global, ids: Vec<ModId>) -> Result<Profile, AllocE
         add_mod(&mut mods, id, ModEntry::plain(alloc, true))?;
     }
     Ok(Profile {
+        version: 1,
         mods,
         overrides: IndexMap::new(alloc),
+        types: Vec::new(alloc),
         extra: Extra::none(alloc),
     })
 }

@@ -1,21 +1,23 @@
 // Rules read from a document.
-ghost use Rattle.std.specs.Prelude.{◌≡◌, ◌+◌, ◌++◌, ◌∷◌, [], OnOk, IfSome, codes, map, option_map, vec_len};
+ghost use Rattle.std.specs.Prelude.{◌≡◌, ◌+◌, IfSome, codes, length, map, option_map};
 ghost use Rattle.std.specs.List.{AllByRecursion};
-ghost use Rattle.toml.specs.Data.{get_member};
 ghost use Rattle.toml.specs.View.{view, array_view, table_view};
-ghost use Rattle.profile_toml.specs.Faults.{Reads, ReadsBy};
-ghost use Rattle.profile_toml.specs.KeyPaths.{keyed, spot_path};
+ghost use Rattle.profile_toml.specs.Faults.{Reads, ReadsBy, ReadsMore};
+ghost use Rattle.profile_toml.specs.KeyPaths.{keyed, path_of};
 ghost use Rattle.profile_toml.specs.Texts.{list_of, text_fault};
 ghost use Rattle.profile_toml.specs.Rules.{kind_of, kind_at, bad_kind, rule_fault, rule_value, list_fault, rules_fault, rules_value};
 ghost use Rattle.profile_toml.specs.Sound.{IsSound};
-ghost use Rattle.profile_toml.specs.Unknown.{without_key};
+ghost use Rattle.profile_toml.specs.Tables.{OfRule, room};
 
-use crate::pieces::{into_array, into_table, take_id, take_text};
-use crate::spot::{Spot, odd_key, odd_table};
-use crate::{Extra, ProfileError, Rule, RuleKind, Text};
-use std::alloc::{AllocError, Global};
+use crate::key_path::{TablePath, odd_key, odd_table};
+use crate::maps::add_rule;
+use crate::optional::read_range;
+use crate::pieces::{into_array, into_table, into_text, read_id, take, take_from_2};
+use crate::{Extra, ProfileError, Rule, RuleKind};
+use rel_paths::Text;
+use std::alloc::Global;
+use toml::Value;
 use toml::value::Array;
-use toml::{Table, Value};
 
 // The kind that a word names.
 #[tactic(auto, unfolding(crate::specs::Rules::kind_of))]
@@ -32,72 +34,94 @@ fn kind_of(word: &str) -> Option<RuleKind>
     }
 }
 
-// The kind in a rule's table.
-fn take_kind(alloc: Global, spot: Spot, table: &mut Table) -> Result<RuleKind, ProfileError>
-    ensures reads { Reads (text_fault bad_kind (keyed (spot_path spot) (codes "kind")) (get_member (codes "kind") (table_view table.old))) (kind_at (get_member (codes "kind") (table_view table.old))) result }
-    ensures left { table_view table.new ≡ without_key (codes "kind") (table_view table.old) }
+// The kind of a rule, by what stands at its `kind`.
+fn read_kind(alloc: Global, at: TablePath, value: Option<Value>) -> Result<RuleKind, ProfileError>
+    ensures { Reads
+        (text_fault bad_kind (keyed (path_of at) (codes "kind")) (option_map view value))
+        (kind_at (option_map view value)) result }
 {
-    let word = take_text(alloc, spot, table, "kind")?;
+    let word = into_text(alloc, at, "kind", value)?;
     match kind_of(word.as_str()) {
         Some(kind) => Ok(kind),
-        None => Err(ProfileError::BadKind(Text::new(word))),
+        None => Err(ProfileError::BadKind(Text::from_string(word))),
     }
 }
 
 // The rule that a value is.
-fn read_rule(alloc: Global, spot: Spot, value: Value) -> Result<Rule, ProfileError>
-    requires { IsSound 60 (view value) }
-    ensures { Reads (rule_fault (spot_path spot) (view value)) (rule_value (view value)) result }
+fn rule_of(alloc: Global, version: u32, at: TablePath, value: Value) -> Result<Rule, ProfileError>
+    requires { IsSound (1 + room OfRule) (view value) }
+    ensures { Reads (rule_fault version (path_of at) (view value))
+        (rule_value version (view value)) result }
 {
     let Some(mut table) = into_table(value) else {
-        return Err(odd_table(alloc, spot));
+        return Err(odd_table(alloc, at));
     };
-    let kind = take_kind(alloc, spot, &mut table)?;
-    let refers = take_id(alloc, spot, &mut table, "ref")?;
+    let kind = read_kind(alloc, at, take(&mut table, "kind"))?;
+    let refers = read_id(alloc, at, "ref", take(&mut table, "ref"))?;
+    let range = read_range(alloc, at, take_from_2(version, &mut table, "range"))?;
     Ok(Rule {
         kind,
         refers,
+        range,
         extra: Extra::of(table),
     })
 }
 
-fn add_rule(rules: &mut Vec<Rule>, rule: Rule) -> Result<(), AllocError>
-    ensures items { OnOk result (rules.new.items ≡ rules.old.items ++ rule ∷ []) }
-    ensures len { OnOk result (vec_len rules.new ≡ vec_len rules.old + 1) }
+// Adds the rule that a value is to those of the mod with an index, which come before it.
+fn read_rule(
+    alloc: Global,
+    version: u32,
+    index: usize,
+    rules: &mut Vec<Rule>,
+    value: Value,
+) -> Result<(), ProfileError>
+    requires { IsSound (1 + room OfRule) (view value) }
+    ensures { ReadsMore
+        (rule_fault version (path_of (TablePath.Rule index (length rules.old.items))) (view value))
+        rules.old.items (rule_value version (view value)) rules.new.items result }
 {
-    match rules.push(rule) {
-        Ok(()) => Ok(()),
-        Err(_) => Err(AllocError),
-    }
+    let rule = rule_of(alloc, version, TablePath::Rule(index, rules.len()), value)?;
+    add_rule(rules, rule)?;
+    Ok(())
 }
 
-// The rules in the array of the mod at a place.
-fn read_items(alloc: Global, place: usize, array: Array) -> Result<Vec<Rule>, ProfileError>
-    requires { AllByRecursion (IsSound 60) (list_of (array_view array)) }
-    ensures { ReadsBy (λ v. v.items) (list_fault (keyed (spot_path (Spot.Mod place)) (codes "rules")) (list_of (array_view array))) (map rule_value (list_of (array_view array))) result }
+// The rules in the array of the mod with an index.
+fn read_items(
+    alloc: Global,
+    version: u32,
+    index: usize,
+    array: Array,
+) -> Result<Vec<Rule>, ProfileError>
+    requires { AllByRecursion (IsSound (1 + room OfRule)) (list_of (array_view array)) }
+    ensures { ReadsBy (λ v. v.items)
+        (list_fault version (keyed (path_of (TablePath.Mod index)) (codes "rules"))
+        (list_of (array_view array)))
+        (map (rule_value version) (list_of (array_view array))) result }
 {
     let mut rules = Vec::new(alloc);
     for item in array {
-        let rule = read_rule(alloc, Spot::Rule(place, rules.len()), item)?;
-        add_rule(&mut rules, rule)?;
+        read_rule(alloc, version, index, &mut rules, item)?;
     }
     Ok(rules)
 }
 
-// The rules of the mod at a place, by what stands at its `rules`.
+// The rules of the mod with an index, by what stands at its `rules`.
 pub(crate) fn read_rules(
     alloc: Global,
-    place: usize,
+    version: u32,
+    index: usize,
     value: Option<Value>,
 ) -> Result<Vec<Rule>, ProfileError>
-    requires { IfSome value (λ v. IsSound 61 (view v)) }
-    ensures { ReadsBy (λ v. v.items) (rules_fault (keyed (spot_path (Spot.Mod place)) (codes "rules")) (option_map view value)) (rules_value (option_map view value)) result }
+    requires { IfSome value (λ v. IsSound (2 + room OfRule) (view v)) }
+    ensures { ReadsBy (λ v. v.items)
+        (rules_fault version (keyed (path_of (TablePath.Mod index)) (codes "rules"))
+        (option_map view value)) (rules_value version (option_map view value)) result }
 {
     let Some(value) = value else {
         return Ok(Vec::new(alloc));
     };
     let Some(array) = into_array(value) else {
-        return Err(odd_key(alloc, Spot::Mod(place), "rules"));
+        return Err(odd_key(alloc, TablePath::Mod(index), "rules"));
     };
-    read_items(alloc, place, array)
+    read_items(alloc, version, index, array)
 }

@@ -1,8 +1,9 @@
 // Rules.
-ghost use Rattle.std.specs.Prelude.{◌≡◌};
-ghost use Rattle.toml.specs.Data.{no_members};
+ghost use Rattle.std.specs.Prelude.{◌≡◌, option_map};
+ghost use Rattle.profile_toml.specs.Plain.{plain_rule};
+ghost use Rattle.profile_toml.specs.Releases.{admits};
 
-use crate::Extra;
+use crate::{Extra, Range, Release};
 use rel_paths::ModId;
 use std::alloc::Global;
 use std::marker::Model;
@@ -22,11 +23,13 @@ pub enum RuleKind {
     Recommends,
 }
 
-/// A rule of a mod.
+/// A rule of a mod. One with a range is about the other mod only where that has a release which the
+/// range matches.
 #[derive(Drop)]
 pub struct Rule {
     pub kind: RuleKind,
     pub refers: ModId,
+    pub range: Option<Range>,
     pub extra: Extra,
 }
 
@@ -37,21 +40,24 @@ impl Model for Rule {
 
     ghost coded = { rule_code };
 
-    ghost use Rattle.profile_toml.specs.Unknown.{AreUnknown, rule_keys};
+    ghost use Rattle.profile_toml.specs.Tables.{OfRule};
+    ghost use Rattle.profile_toml.specs.Unknown.{AreUnknown};
 
-    ghost view = { λ a. record { kind = a.kind; refers = a.refers; extra = a.extra } };
+    ghost view = { λ
+        a. record { kind = a.kind; refers = a.refers; range = a.range; extra = a.extra } };
 
-    ghost invariant = { λ a. AreUnknown rule_keys 59 a.extra };
+    ghost invariant = { λ a. AreUnknown 1 OfRule a.extra };
 }
 
 impl Rule {
-    /// A rule without unknown keys.
+    /// A rule without a range and without unknown keys. It takes no memory.
     pub fn plain(alloc: Global, kind: RuleKind, refers: ModId) -> Rule
-        ensures { result ≡ record { kind = kind; refers = refers; extra = no_members } }
+        ensures { result ≡ plain_rule kind refers }
     {
         Rule {
             kind,
             refers,
+            range: None,
             extra: Extra::none(alloc),
         }
     }
@@ -68,5 +74,24 @@ impl Rule {
         ensures { result.now ≡ self.now.refers }
     {
         &self.refers
+    }
+
+    /// The range, if the rule has one.
+    pub fn range(&self) -> Option<&Range>
+        ensures { option_map (λ r. r.now) result ≡ self.now.range }
+    {
+        self.range.as_ref()
+    }
+
+    /// Whether the rule admits a mod with this release, if that has one: it has no range, or its
+    /// range matches the release. It takes no memory.
+    pub fn admits(&self, release: Option<&Release>) -> bool
+        ensures { result ≡ admits self.now.range (option_map (λ r. r.now) release.entry) }
+    {
+        match (&self.range, release) {
+            (None, _) => true,
+            (Some(_), None) => false,
+            (Some(range), Some(release)) => range.matches(release),
+        }
     }
 }

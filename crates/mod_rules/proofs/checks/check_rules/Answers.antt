@@ -5,7 +5,8 @@ use Rattle.std.specs.Option.{option_map, option_copied}
 use Rattle.std.proofs.lemmas.List.{map-append}
 use Rattle.mod_rules.specs.Nodes.{enabled_of}
 use Rattle.mod_rules.specs.Checks.{is_failing, error_of, rules_of}
-use Rattle.mod_rules.proofs.Steps.{seen_more, first_found, none_found}
+use Rattle.list_laws.proofs.Lists.{seen_more}
+use Rattle.mod_rules.proofs.Steps.{first_found, none_found}
 use Rattle.mod_rules.proofs.checks.check_rules.Goals as goal
 
 pub returns-in-Some-failing_rule-clause-err : goal.returns-in-Some-failing_rule-clause-err

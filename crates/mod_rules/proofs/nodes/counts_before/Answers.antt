@@ -1,7 +1,8 @@
 use Rattle.std.proofs.Common.{◌++◌, ◌∷◌, [], map, ap, sym, ◌∙◌, arith}
 use Rattle.std.specs.Map.Iter.{deref_pair}
 use Rattle.std.proofs.lemmas.List.{map-append}
-use Rattle.mod_rules.proofs.Steps.{seen_more, counted_on, counted_off, room_for}
+use Rattle.list_laws.proofs.Lists.{seen_more}
+use Rattle.mod_rules.proofs.Steps.{counted_on, counted_off, room_for}
 use Rattle.mod_rules.proofs.Counts.{listed_more}
 use Rattle.mod_rules.proofs.nodes.counts_before.Goals as goal
 

@@ -1,9 +1,10 @@
 use Rattle.std.proofs.Common.{◌≡◌, ◌++◌, ◌∷◌, [], None, length, ap, sym, ◌∙◌, nat_eq, true, arith}
 use Rattle.std.specs.Cmp.Lexicographic.{pointwise}
+use Rattle.list_laws.proofs.Truths.{none-from_map}
 use Rattle.indexmap.proofs.CallerLemmas.{insert_entry-new}
 use Rattle.profile_edit.specs.Parts.{value_at, with_enabled}
 use Rattle.profile_edit.proofs.Values.{with_value-None}
-use Rattle.profile_edit.proofs.Applied.{enabled, enabled_new, not_there}
+use Rattle.profile_edit.proofs.Applied.{enabled, enabled_new}
 use Rattle.profile_edit.proofs.mods.enable.Goals as goal
 
 pub returns-in-Some : goal.returns-in-Some
@@ -12,7 +13,7 @@ returns-in-Some c = enabled c.args.most_mods c.args.id.now c.args.mods.now.entri
 pub returns-in-Ok : goal.returns-in-Ok
 returns-in-Ok c =
     let mods = c.args.mods.now.entries in
-    let none : value_at c.args.id.now mods ≡ None = not_there (λ m. m.enabled) (value_at c.args.id.now mods) (sym c.in_default.is ∙ c.set_enabled.ensures.was) in
+    let none : value_at c.args.id.now mods ≡ None = none-from_map (λ m. m.enabled) (value_at c.args.id.now mods) (sym c.in_default.is ∙ c.set_enabled.ensures.was) in
     let kept = c.set_enabled.ensures.after ∙ with_value-None c.args.id.now (with_enabled true) mods none in
     let none_kept : value_at c.args.id.now c.set_enabled.new.mods.entries ≡ None = ap (value_at c.args.id.now) kept ∙ none in
     let fresh = ap (λ k. value_at k c.set_enabled.new.mods.entries) c.in_ok-copy.ensures ∙ none_kept in

@@ -2,11 +2,12 @@ use Rattle.std.proofs.Common.{◌≡◌, ◌++◌, ◌∷◌, [], None, ap, sym,
 use Rattle.std.specs.Cmp.Lexicographic.{pointwise}
 use Rattle.std.specs.Str.{bytes_eq}
 use Rattle.std.specs.Option.{option_map}
+use Rattle.list_laws.proofs.Truths.{none-from_map}
 use Rattle.indexmap.proofs.CallerLemmas.{insert_entry-new}
 use Rattle.toml.specs.Data.{no_members}
 use Rattle.profile_toml.specs.Records.{OverrideData, AreAtTheirPaths}
 use Rattle.profile_edit.specs.Parts.{value_at, with_value, with_mod_id}
-use Rattle.profile_edit.proofs.Applied.{override_set, override_added, not_there, pointed}
+use Rattle.profile_edit.proofs.Applied.{override_set, override_added, pointed}
 use Rattle.profile_edit.proofs.Keyed.{keyed-with_value, keyed-push}
 use Rattle.profile_edit.proofs.overrides.set_override.Goals as goal
 
@@ -25,7 +26,7 @@ returns-in-Ok-clause-result c =
     let id = c.args.id.now in
     let path = c.args.path.now in
     let old = c.args.overrides.now.entries in
-    let none : value_at path old ≡ None = not_there (λ x. bytes_eq x.mod_id id) (value_at path old) (sym c.in-None.is ∙ c.is_to.ensures ∙ pointed id c.get.result ∙ ap (option_map (λ x. bytes_eq x.mod_id id)) c.get.ensures.value) in
+    let none : value_at path old ≡ None = none-from_map (λ x. bytes_eq x.mod_id id) (value_at path old) (sym c.in-None.is ∙ c.is_to.ensures ∙ pointed id c.get.result ∙ ap (option_map (λ x. bytes_eq x.mod_id id)) c.get.ensures.value) in
     let fresh = ap (λ k. value_at k old) c.in_ok-copy-in-None-3.ensures ∙ none in
     let entry : c.plain-entry.result ≡ record { path = path; mod_id = id; extra = no_members } = c.plain-entry.ensures ∙ λ i. record { path = c.in_ok-copy-in-None.ensures i; mod_id = c.in_ok-copy-in-None-2.ensures i; extra = no_members } in
     let entries = c.in-Ok.ensures.entries ∙ insert_entry-new (pointwise nat_eq) c.args.overrides.now c.in_ok-copy-in-None-3.field-0 c.plain-entry.result fresh in
@@ -36,7 +37,7 @@ returns-in-Ok-clause-keyed c =
     let id = c.args.id.now in
     let path = c.args.path.now in
     let old = c.args.overrides.now.entries in
-    let none : value_at path old ≡ None = not_there (λ x. bytes_eq x.mod_id id) (value_at path old) (sym c.in-None.is ∙ c.is_to.ensures ∙ pointed id c.get.result ∙ ap (option_map (λ x. bytes_eq x.mod_id id)) c.get.ensures.value) in
+    let none : value_at path old ≡ None = none-from_map (λ x. bytes_eq x.mod_id id) (value_at path old) (sym c.in-None.is ∙ c.is_to.ensures ∙ pointed id c.get.result ∙ ap (option_map (λ x. bytes_eq x.mod_id id)) c.get.ensures.value) in
     let fresh = ap (λ k. value_at k old) c.in_ok-copy-in-None-3.ensures ∙ none in
     let entry : c.plain-entry.result ≡ record { path = path; mod_id = id; extra = no_members } = c.plain-entry.ensures ∙ λ i. record { path = c.in_ok-copy-in-None.ensures i; mod_id = c.in_ok-copy-in-None-2.ensures i; extra = no_members } in
     let entries = c.in-Ok.ensures.entries ∙ insert_entry-new (pointwise nat_eq) c.args.overrides.now c.in_ok-copy-in-None-3.field-0 c.plain-entry.result fresh in

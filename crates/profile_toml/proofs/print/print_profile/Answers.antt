@@ -1,7 +1,7 @@
 use Rattle.std.proofs.Common.{Some, ap, sym, subst, ◌∙◌}
 use Rattle.std.proofs.lemmas.Result.{IfOk-weaker}
 use Rattle.profile_toml.specs.Sound.{AreSound}
-use Rattle.profile_toml.proofs.Documents.{AreSound-profile}
+use Rattle.profile_toml.proofs.Printed.{AreSound-profile}
 use Rattle.profile_toml.proofs.Printed.{printed_reads}
 use Rattle.profile_toml.proofs.print.print_profile.Goals as goal
 

@@ -12,5 +12,6 @@ returns-clause-kept c =
       ids = c.in_ok-mods.ensures.ids;
       overrides = c.in_ok-overrides.ensures.kept;
       paths = subst (IsDistinct (pointwise nat_eq)) (paths_are c.profile.inside.overrides.entries c.profile.invariant.0) c.in_ok-overrides.ensures.keys;
-      extra = c.profile.invariant.1;
+      types = c.in_ok-put_types.ensures.kept;
+      fits = c.profile.invariant.1;
     })

@@ -1,6 +1,6 @@
 use Rattle.std.proofs.Common.{◌≡◌, ◌++◌, map, true, length}
 use Rattle.std.specs.Vec.Iter.{into_iter_items, into_iter_len}
-use Rattle.profile_toml.specs.Profiles.{plain_mod}
+use Rattle.profile_toml.specs.Plain.{plain_mod}
 use Rattle.profile_toml.proofs.profile.default_profile.Given as goal
 
 abbrev pub invariant-loop-id : goal.invariant-loop-id

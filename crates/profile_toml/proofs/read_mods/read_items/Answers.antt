@@ -1,79 +1,61 @@
-use Rattle.std.proofs.Common.{◌≡◌, ◌∷◌, ◌++◌, ◌+◌, [], ℕ, List, None, Option, map, length, ap, sym, subst, ◌∙◌, rules}
-use Rattle.std.specs.List.{AllByRecursion}
+use Rattle.std.proofs.Common.{◌≡◌, ◌∷◌, [], ℕ, List, Option, codes, sym, ◌∙◌, rules}
 use Rattle.std.specs.Map.{keys_of}
 use Rattle.std.specs.Vec.Iter.{into_iter_items}
-use Rattle.toml.specs.View.{view, array_view}
-use Rattle.profile_toml.specs.declared.spot.Spot.TheVariants.{Mod}
-use Rattle.profile_toml.specs.Faults.{first_fault}
-use Rattle.profile_toml.specs.KeyPaths.{spot_path}
-use Rattle.profile_toml.specs.Mods.{id_in, entry_value, mod_fault, mod_value, list_fault}
-use Rattle.profile_toml.specs.Sound.{IsSound}
-use Rattle.profile_toml.specs.Texts.{list_of, members_in}
-use Rattle.profile_toml.proofs.Keys.{earlier_keys, length-last}
-use Rattle.profile_toml.proofs.Lists.{nothing_left, taken_more, taken_all, length_after, map-last}
-use Rattle.profile_toml.proofs.ModFacts.{fault_among}
-use Rattle.profile_toml.proofs.Scans.{ReadsBy-err, list_of-view, map-view, scan_more, scan_hit, scan_end}
+use Rattle.toml.specs.Data.{Data}
+use Rattle.toml.specs.View.{items_view}
+use Rattle.profile_toml.specs.declared.error.ProfileError.{ProfileError}
+use Rattle.profile_toml.specs.KeyPaths.{indexed}
+use Rattle.profile_toml.specs.Mods.{mod_fault, mod_value, entry_value}
+use Rattle.profile_toml.specs.Records.{ModData}
+use Rattle.profile_toml.specs.Texts.{id_in, members_in, list_of}
+use Rattle.list_laws.proofs.Lists.{length_after}
+use Rattle.std.proofs.lemmas.List.{nil_from_length}
+use Rattle.profile_toml.proofs.Readers.{among, begins, next_sound, keyed_stops, keyed_goes_on, ends}
 use Rattle.profile_toml.proofs.read_mods.read_items.Goals as goal
+
+-- the fault of the mod with an index, and the mod without its id
+abbrev fault : ℕ → List (List ℕ) → List (List ℕ) → ℕ → Data → Option ProfileError
+fault version ids earlier n d = mod_fault version ids earlier (indexed (codes "mods") n) d
+
+abbrev value : ℕ → Data → ModData
+value version d = entry_value version (members_in d)
+
+-- the fault of an item among all
+abbrev fault_in : ℕ → List (List ℕ) → List Data → ℕ → Data → Option ProfileError
+fault_in version ids all = among (fault version ids) id_in (value version) 62 all
 
 pub loop-item-init : goal.loop-item-init
 loop-item-init c =
-    let gives = c.into_iter-item-iterator.ensures.into_iter_gives in
-    let items = c.args.array.items in
+    let all = list_of (items_view c.args.array.items) in
     record {
-      taken = gives.0;
+      reading = begins (fault_in c.args.version (keys_of c.args.types.now.entries) all) (mod_value c.args.version) 62 c.args.array.items _ _ c.into_iter-item-iterator.ensures.into_iter_gives.0 c.new-mods.ensures.empty c.requires.sound;
       length_is = search rules;
-      made = c.new-mods.ensures.empty;
-      scanned = λ i. first_fault (fault_among (map view items)) (length (c.new-mods.ensures.empty i)) (map view (gives.0 i));
-      sound = subst (AllByRecursion (IsSound 62)) (list_of-view items ∙ ap (map view) (sym gives.0)) c.requires;
     }
 
-pub read_mod-requires : goal.read_mod-requires
-read_mod-requires c = (subst (AllByRecursion (IsSound 62)) (ap (map view) c.in-Some.ensures.steps.0) c.loop-item.invariant.sound).0
+pub read_mod-requires-clause-sound : goal.read_mod-requires-clause-sound
+read_mod-requires-clause-sound c =
+    let all = list_of (items_view c.args.array.items) in
+    next_sound (fault_in c.args.version (keys_of c.args.types.now.entries) all) (mod_value c.args.version) 62 all _ _ c.in-Some.item _ c.in-Some.ensures.steps.0 c.loop-item.invariant.reading
 
 pub returns-in_err-read_mod : goal.returns-in_err-read_mod
 returns-in_err-read_mod c =
-    let at = c.loop-item in
-    let items = c.args.array.items in
-    let f = fault_among (map view items) in
-    let d = view c.in-Some.item in
-    let es = at.mods.entries in
-    let before = into_iter_items at.item-iterator in
-    let earlier = earlier_keys id_in (λ x. entry_value (members_in x)) es at.yielded before items at.invariant.made at.invariant.taken in
-    ReadsBy-err _ _ _ _ c.in_err-read_mod.field-0.0 c.from_residual.ensures.1
-    (λ m. ap list_fault (list_of-view items) ∙ scan_hit f (length es) d (map view (into_iter_items c.next.new.self)) (map view before) (first_fault f 0 (map view items)) (ap (map view) c.in-Some.ensures.steps.0) at.invariant.scanned
-    c.in_err-read_mod.field-0.0
-    (λ n. ap (λ ks. mod_fault ks (spot_path (Mod (length es))) d) (sym earlier) ∙ c.in_err-read_mod.ensures.err n) m)
+    keyed_stops (fault c.args.version (keys_of c.args.types.now.entries)) id_in (value c.args.version) 62 (list_of (items_view c.args.array.items)) _ _ c.in-Some.item _ c.in-Some.ensures.steps.0 c.loop-item.invariant.reading
+    (λ m. m.entries) c.from_residual.result c.in_err-read_mod.field-0.0 c.from_residual.ensures.1 c.in_err-read_mod.ensures
 
 pub loop-item-preserved : goal.loop-item-preserved
 loop-item-preserved c =
-    let at = c.loop-item in
-    let item = c.in-Some.item in
-    let items = c.args.array.items in
-    let f = fault_among (map view items) in
-    let es = at.mods.entries in
     let rest = into_iter_items c.next.new.self in
-    let before = into_iter_items at.item-iterator in
-    let step : before ≡ item ∷ rest = c.in-Some.ensures.steps.0 in
-    let earlier = earlier_keys id_in (λ x. entry_value (members_in x)) es at.yielded before items at.invariant.made at.invariant.taken in
-    let ok = c.in_ok-read_mod.ensures.ok in
-    let none : f (length es) (view item) ≡ None = ap (λ ks. mod_fault ks (spot_path (Mod (length es))) (view item)) (sym earlier) ∙ ok.0 in
+    let before = into_iter_items c.loop-item.item-iterator in
+    let step : before ≡ c.in-Some.item ∷ rest = c.in-Some.ensures.steps.0 in
     record {
-      taken = taken_more at.yielded item rest before items step at.invariant.taken;
-      length_is = length_after rest before item _ _ step c.in-Some.ensures.steps.1 at.invariant.length_is;
-      made = ok.1 ∙ ap (λ l. l ++ mod_value (view item) ∷ []) at.invariant.made ∙ sym (map-last (λ v. mod_value (view v)) at.yielded item);
-      scanned = ap (λ n. first_fault f n (map view rest)) (ap length ok.1 ∙ length-last es (mod_value (view item)))
-          ∙ scan_more f (length es) (view item) (map view rest) (map view before) (first_fault f 0 (map view items)) (ap (map view) step) at.invariant.scanned none;
-      sound = (subst (AllByRecursion (IsSound 62)) (ap (map view) step) at.invariant.sound).1;
+      reading = keyed_goes_on (fault c.args.version (keys_of c.args.types.now.entries)) id_in (value c.args.version) 62 (list_of (items_view c.args.array.items)) before rest c.in-Some.item _ step c.loop-item.invariant.reading
+          _ c.in_ok-read_mod.ensures.0 c.in_ok-read_mod.ensures.1;
+      length_is = length_after rest before c.in-Some.item _ _ step c.in-Some.ensures.steps.1 c.loop-item.invariant.length_is;
     }
 
 pub returns : goal.returns
 returns c =
-    let at = c.loop-item in
-    let items = c.args.array.items in
-    let f = fault_among (map view items) in
-    let left = into_iter_items at.item-iterator in
-    let empty : left ≡ [] = nothing_left left (sym at.invariant.length_is ∙ c.in-None.ensures.steps.0) in
-    let all = taken_all at.yielded left items _ at.invariant.length_is c.in-None.ensures.steps.0 at.invariant.taken in (
-      ap list_fault (list_of-view items) ∙ scan_end f (length at.mods.entries) (map view left) (first_fault f 0 (map view items)) (ap (map view) empty) at.invariant.scanned,
-      at.invariant.made ∙ ap (map (λ v. mod_value (view v))) all ∙ map-view mod_value items,
-    )
+    let all = list_of (items_view c.args.array.items) in
+    let left = into_iter_items c.loop-item.item-iterator in
+    let empty : left ≡ [] = nil_from_length left (sym c.loop-item.invariant.length_is ∙ c.in-None.ensures.steps.0) in
+    ends (fault_in c.args.version (keys_of c.args.types.now.entries) all) (mod_value c.args.version) 62 all left _ empty c.loop-item.invariant.reading

@@ -3,7 +3,7 @@ use Rattle.toml.specs.Data.{array}
 use Rattle.toml.specs.View.{view, array_view}
 use Rattle.profile_toml.specs.Sound.{IsSound}
 use Rattle.profile_toml.proofs.Members.{AllSound-array}
-use Rattle.profile_toml.proofs.RuleFacts.{array_is}
+use Rattle.profile_toml.proofs.Shapes.{array_is}
 use Rattle.profile_toml.proofs.read_rules.read_rules.Goals as goal
 
 pub read_items-requires : goal.read_items-requires

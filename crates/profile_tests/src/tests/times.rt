@@ -1,0 +1,88 @@
+// Reading and printing take time linear in the text.
+use crate::tests::profiles::{printed, profile_of};
+use std::process::Abort;
+use std::time::{CpuClock, Duration};
+
+// Adds a type, an override, and a mod of that type with so many rules.
+fn add_mod(rt: &(impl AllocGlobal + Abort), text: &mut String, place: u32, rules: u32) {
+    write!(
+        text,
+        "[[types]]\nid = 't{place}'\nbase = 'bin'\n[[overrides]]\npath = 'p{place}'\nmod = 'a'
+[[mods]]\nid = 'a{place}'\nrelease = '1.0.{place}'\ntype = 't{place}'\n"
+    )
+    .expect(rt, "memory");
+    for rule in 0..rules {
+        write!(
+            text,
+            "[[mods.rules]]\nkind = 'after'\nref = 'b{rule}'\nrange = '^1'\n"
+        )
+        .expect(rt, "memory");
+    }
+}
+
+// A document of so many mods with so many rules each.
+fn many(rt: &(impl AllocGlobal + Abort), mods: u32, rules: u32) -> String {
+    let mut text = "version = 2\n".to_string(rt.alloc()).expect(rt, "memory");
+    for place in 0..mods {
+        add_mod(rt, &mut text, place, rules);
+    }
+    text
+}
+
+// How long reading and printing took.
+#[derive(Clone, Copy)]
+struct Taken {
+    reading: Duration,
+    printing: Duration,
+}
+
+fn time_of(rt: &(impl AllocGlobal + CpuClock + Abort), text: &str) -> Taken {
+    let start = rt.thread_cpu_time().expect(rt, "a clock");
+    let profile = profile_of(rt, text);
+    let read = rt.thread_cpu_time().expect(rt, "a clock");
+    let _text = printed(rt, profile);
+    let end = rt.thread_cpu_time().expect(rt, "a clock");
+    Taken {
+        reading: read.saturating_sub(start),
+        printing: end.saturating_sub(read),
+    }
+}
+
+// The least processor times of three tries.
+fn least_times(rt: &(impl AllocGlobal + CpuClock + Abort), mods: u32, rules: u32) -> Taken {
+    let text = many(rt, mods, rules);
+    let mut least = time_of(rt, text.as_str());
+    for _ in 0..2u8 {
+        let taken = time_of(rt, text.as_str());
+        least.reading = least.reading.min(taken.reading);
+        least.printing = least.printing.min(taken.printing);
+    }
+    least
+}
+
+// Four times the text takes four times as long where time is linear in it, and sixteen times where
+// it is quadratic.
+fn check_times(rt: &(impl AllocGlobal + CpuClock + Abort), few: Taken, many: Taken) {
+    let (reading, printing) = (many.reading, many.printing);
+    assert!(rt;
+        reading.as_nanos() / 9 < few.reading.as_nanos(),
+        "{reading:?} to read"
+    );
+    assert!(rt;
+        printing.as_nanos() / 9 < few.printing.as_nanos(),
+        "{printing:?} to print"
+    );
+}
+
+#[test]
+fn four_times_the_text_takes_less_than_nine_times_the_time(rt: HostRuntime) {
+    for (few, many, rules, more_rules) in [
+        (400u32, 1600u32, 20u32, 20u32),
+        (1000, 4000, 0, 0),
+        (1, 1, 2000, 8000),
+    ] {
+        let small = least_times(&rt, few, rules);
+        let large = least_times(&rt, many, more_rules);
+        check_times(&rt, small, large);
+    }
+}
