@@ -1,6 +1,6 @@
-use Rattle.std.proofs.Common.{◌≡◌, ℕ, ◌+◌, ◌≤◌, true, false, ◌||◌, List, [], ◌++◌, length, sym, ap, ◌∙◌, arith, length-append, append_assoc, append-nil}
+use Rattle.std.proofs.Common.{◌≡◌, ℕ, ◌+◌, ◌≤◌, true, false, ◌||◌, List, [], ◌++◌, length, refl, sym, ap, ◌∙◌, arith, length-append, append_assoc, append-nil}
 use Rattle.std.proofs.lemmas.List.Folds.{list_any-append}
-use Rattle.io_edge.specs.Lines.{is_lf, has_lf, line_bytes, through_line, after_line}
+use Rattle.io_edge.specs.Lines.{is_lf, has_lf, line_bytes, through_line, after_line, TakesNoEnd}
 use Rattle.io_edge.proofs.FirstLine.{end_of, end-goes_on, end-stays, end-grows, end-whole, through-goes_on, through-stays, through-whole, after-goes_on, after-stays, after-none, length-line_bytes}
 
 -- in each lemma `whole` is what was ahead at first: the line so far, the bytes held, and those left
@@ -34,6 +34,25 @@ ahead_of_more whole line held left line' held' held'' left' ahead more moved res
     let empty : held' ≡ [] = rest ∙ after-none held more in
     let same : held'' ++ left' ≡ left = filled ∙ ap (λ x. x ++ left) empty in
     rw (all, same, append_assoc) ahead
+
+-- and where no more come, all that was taken is in the line
+pub only_the_line : (whole line held left line' left' : List ℕ) → whole ≡ line ++ (held ++ left) → has_lf line ≡ false → has_lf held ≡ false → line' ≡ line ++ through_line held → left' ≡ left → TakesNoEnd whole left'
+only_the_line whole line held left line' left' ahead none more moved same =
+    let all : line' ≡ line ++ held = moved ∙ ap (λ x. line ++ x) (through-whole held more) in
+    record {
+      taken = line';
+      parts = rw (all, same, append_assoc) ahead;
+      no_end = still_no_lf line held line' none more moved;
+    }
+
+-- where nothing was held and nothing came, nothing was taken
+pub nothing_taken : (held left left' : List ℕ) → held ≡ [] → left' ≡ left → TakesNoEnd (held ++ left) left'
+nothing_taken held left left' empty same =
+    record { taken = []; parts = rw (empty, same) refl; no_end = refl }
+
+pub taken_before : (whole whole' left : List ℕ) → whole ≡ whole' → TakesNoEnd whole' left → TakesNoEnd whole left
+taken_before whole whole' left same takes =
+    record { taken = takes.taken; parts = same ∙ takes.parts; no_end = takes.no_end }
 
 pub line_at_end : (whole line' held'' left' : List ℕ) → whole ≡ line' ++ (held'' ++ left') → held'' ≡ [] → left' ≡ [] → whole ≡ line'
 line_at_end whole line' held'' left' ahead no_held no_left =

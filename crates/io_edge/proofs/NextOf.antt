@@ -96,6 +96,10 @@ short_text most line held line' none moved short =
 
 -- the answers of a reader, where `ahead` is what it had to read, and `here` the same bytes at hand after the first pull
 
+-- an error that is handed on is the same one
+pub failed_before : {T U : Type 0} (before : Result T LineError) (after : Result U LineError) (e wanted : LineError) → before ≡ Err e → after ≡ Err e → after ≡ Err wanted → before ≡ Err wanted
+failed_before before after e wanted was is failed = cc
+
 pub here_is : (held held' here left left' : List ℕ) → held' ≡ held → here ++ left' ≡ held' ++ left → here ++ left' ≡ held ++ left
 here_is held held' here left left' same filled = filled ∙ ap (λ x. x ++ left) same
 

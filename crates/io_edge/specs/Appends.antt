@@ -1,3 +1,4 @@
+-- What a sink was given.
 use Rattle.std.specs.Prelude.{◌≡◌, ◌≤◌, ℕ, List, ◌++◌, length, take}
 
 -- some first bytes were appended, perhaps none and perhaps all

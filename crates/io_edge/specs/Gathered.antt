@@ -1,3 +1,4 @@
+-- A line that is being gathered.
 use Rattle.std.specs.Prelude.{ℕ, List}
 
 -- a line that is being gathered, and the bytes that were pulled and are in no line yet

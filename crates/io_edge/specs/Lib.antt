@@ -1,4 +1,3 @@
-pub mod Cause
 pub mod Appends
 pub mod Mem
 pub mod Lines

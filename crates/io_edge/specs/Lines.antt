@@ -1,4 +1,5 @@
-use Rattle.std.specs.Prelude.{ℕ, ◌+◌, ◌-◌, ◌==◌, Bool, if◌then◌else◌, List, length, slice_index, take}
+-- Lines of bytes.
+use Rattle.std.specs.Prelude.{◌≡◌, ℕ, ◌+◌, ◌-◌, ◌==◌, Bool, false, if◌then◌else◌, List, ◌++◌, length, slice_index, take}
 use Rattle.std.specs.List.{before_first, after_first, position_or_len, list_any}
 use Rattle.std.specs.Str.Lines.{strip_carriage_return}
 
@@ -36,3 +37,9 @@ line_text bytes = if has_lf bytes then strip_carriage_return (line_bytes bytes) 
 -- a whole line without the LF at its end, and without a CR before that
 abbrev pub without_end : List ℕ → List ℕ
 without_end line = if slice_index line (length line - 1) == 10 then strip_carriage_return (take (length line - 1) line) else line
+
+-- what was taken off the bytes ahead has no LF, so no line whose end was read is lost
+pub record TakesNoEnd (ahead left : List ℕ) : Type 0 where
+  pub taken : List ℕ
+  pub parts : ahead ≡ taken ++ left
+  pub no_end : has_lf taken ≡ false

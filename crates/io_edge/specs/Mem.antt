@@ -1,3 +1,4 @@
+-- A source and a sink in memory.
 use Rattle.std.specs.Prelude.{◌≡◌, ◌≤◌, ℕ, ◌+◌, ◌-◌, ◌^◌, min, List, ◌++◌, length}
 
 -- one more, where the count doesn't stand at its end

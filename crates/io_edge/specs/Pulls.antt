@@ -1,3 +1,4 @@
+-- What a source gives, pull by pull.
 use Rattle.std.specs.Prelude.{◌≡◌, ℕ, false, List, ◌++◌}
 use Rattle.io_edge.specs.Lines.{has_lf}
 

@@ -1,10 +1,10 @@
-use Rattle.std.specs.Prelude.{ℕ, ◌+◌, ◌≡◌, ◌≤◌, IsErrOf, nat_lt, nat_le, if◌then◌else◌, List, [], ◌∷◌, length}
+-- A reader of lines, and its answers.
+use Rattle.std.specs.Prelude.{ℕ, ◌+◌, ◌≡◌, nat_lt, nat_le, if◌then◌else◌, List, [], ◌∷◌, length}
 use Rattle.std.specs.declared.option.Option.{Option}
 use Rattle.std.specs.declared.option.Option.TheVariants.{None, Some}
 use Rattle.std.specs.declared.result.Result.{Result}
 use Rattle.std.specs.declared.result.Result.TheVariants.{Ok, Err}
 use Rattle.std.specs.Str.{is_utf8}
-use Rattle.fault_count.specs.Rose.{Rose}
 use Rattle.io_edge.specs.declared.error.IoError.{IoError}
 use Rattle.io_edge.specs.declared.error.IoError.TheVariants as io
 use Rattle.io_edge.specs.declared.lines.LineError.{LineError}
@@ -48,8 +48,3 @@ IsUnlessBroken result answer = result ≡ answer
 abbrev pub line_error : IoError → LineError
 line_error io.Failed = Failed
 line_error io.Memory = Memory
-
--- the count of faults never falls, and it rose where the answer is that the source failed
-pub record HasLineCause {T : Type 0} (before now : ℕ) (result : Result T LineError) : Type 0 where
-  pub later : before ≤ now
-  pub failed : IsErrOf result Failed → Rose before now

@@ -40,8 +40,6 @@ pub(crate) fn count_fault(faults: &mut FaultCount) -> IoError
     ensures rose { Rose faults.old faults.new }
     ensures later { faults.old ≤ faults.new }
 {
-    // Its bound is what shows that the count never falls.
-    let _ = faults.get();
     faults.raise();
     IoError::Failed
 }

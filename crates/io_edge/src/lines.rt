@@ -6,10 +6,10 @@ ghost use Rattle.std.specs.String.{string_bytes};
 ghost use Rattle.std.specs.Str.Lines.{strip_carriage_return, lines};
 ghost use Rattle.std.specs.Result.{result_err};
 ghost use Rattle.fault_count.specs.Rose.{Rose};
-ghost use Rattle.io_edge.specs.Cause.{HasCause};
-ghost use Rattle.io_edge.specs.Lines.{is_lf, has_lf, line_bytes, through_line, after_line, without_end};
+ghost use Rattle.fault_count.specs.Causes.{HasCause};
+ghost use Rattle.io_edge.specs.Lines.{is_lf, has_lf, line_bytes, through_line, after_line, without_end, TakesNoEnd};
 ghost use Rattle.io_edge.specs.Pulls.{PullsForALine};
-ghost use Rattle.io_edge.specs.Reader.{next_of, texts_of, line_error, IsUnlessBroken, HasLineCause};
+ghost use Rattle.io_edge.specs.Reader.{next_of, texts_of, line_error, IsUnlessBroken};
 ghost use Rattle.io_edge.specs.declared.lines.LineError.TheVariants.{Memory};
 
 use crate::{IoError, Source};
@@ -101,7 +101,8 @@ impl Model for Gathered {
 
     ghost view = { λ a. record { line = a.line.items; held = drop a.start a.piece.items } };
 
-    ghost invariant = { λ a. (a.start ≤ vec_len a.piece) × (vec_len a.piece ≤ 65536) × (vec_len a.line ≤ MOST_LINE_BYTES + 1) };
+    ghost invariant = { λ a. (a.start ≤ vec_len a.piece) × (vec_len a.piece ≤ 65536)
+        × (vec_len a.line ≤ MOST_LINE_BYTES + 1) };
 }
 
 impl Gathered {
@@ -126,14 +127,19 @@ impl Gathered {
     // Pulls a piece where no bytes are held, and answers whether there is a byte.
     fn fill<S: Source>(&mut self, source: &mut S) -> Result<bool, IoError>
         ensures more { IfOk result (λ more. (more ≡ false) ↔ (self.new.held ≡ [])) }
-        ensures ahead { S.tells → OnOk result (self.new.held ++ S.left source.new ≡ self.old.held ++ S.left source.old) }
+        ensures ahead { S.tells → OnOk result (self.new.held ++ S.left source.new
+            ≡ self.old.held ++ S.left source.old) }
         ensures end { S.tells → IfOk result (λ more. more ≡ false → S.left source.new ≡ []) }
         ensures line { self.new.line ≡ self.old.line }
-        ensures quiet { self.old.held ≢ [] → (source.new ≡ source.old) × (self.new ≡ self.old) × (result ≡ Ok true) }
-        ensures pull { self.old.held ≡ [] → OnOk result (S.gives source.old self.new.held source.new) }
-        ensures failed_pull { OnErr result ((self.old.held ≡ []) × S.gives source.old [] source.new) }
+        ensures quiet { self.old.held ≢ []
+            → (source.new ≡ source.old) × (self.new ≡ self.old) × (result ≡ Ok true) }
+        ensures pull { self.old.held ≡ []
+            → OnOk result (S.gives source.old self.new.held source.new) }
+        ensures failed_pull { OnErr result
+            ((self.old.held ≡ []) × S.gives source.old [] source.new) }
+        ensures kept { S.tells → OnErr result (S.left source.new ≡ S.left source.old) }
         ensures small { length self.new.held ≤ 65536 }
-        ensures cause { HasCause (S.faults source.old) (S.faults source.new) result }
+        ensures cause { HasCause IoError.Failed (S.faults source.old) (S.faults source.new) result }
     {
         if !rest(&self.piece, self.start).is_empty() {
             return Ok(true);
@@ -149,9 +155,11 @@ impl Gathered {
         ensures line { OnOk result (self.new.line ≡ self.old.line ++ through_line self.old.held) }
         ensures held { OnOk result (self.new.held ≡ after_line self.old.held) }
         ensures ended { IfOk result (λ ended. ended ≡ has_lf self.old.held) }
-        ensures short { OnOk result (length self.old.line + position_or_len is_lf self.old.held ≤ MOST_LINE_BYTES) }
+        ensures short { OnOk result
+            (length self.old.line + position_or_len is_lf self.old.held ≤ MOST_LINE_BYTES) }
         ensures small { length self.new.held ≤ 65536 }
-        ensures err { IfErr result (λ e. e ≢ LineError.Memory → (e ≡ LineError.TooLong number) × (MOST_LINE_BYTES < length self.old.line + position_or_len is_lf self.old.held)) }
+        ensures err { IfErr result (λ e. e ≢ LineError.Memory → (e ≡ LineError.TooLong number)
+            × (MOST_LINE_BYTES < length self.old.line + position_or_len is_lf self.old.held)) }
     {
         let held = rest(&self.piece, self.start);
         let end = line_end(held);
@@ -169,16 +177,22 @@ impl Gathered {
     fn gather<S: Source>(&mut self, source: &mut S, number: u32) -> Result<(), LineError>
         requires no_line { self.old.line ≡ [] }
         requires some { self.old.held ≢ [] }
-        ensures line { S.tells → OnOk result (self.new.line ≡ through_line (self.old.held ++ S.left source.old)) }
-        ensures rest { S.tells → OnOk result (self.new.held ++ S.left source.new ≡ after_line (self.old.held ++ S.left source.old)) }
+        ensures line { S.tells
+            → OnOk result (self.new.line ≡ through_line (self.old.held ++ S.left source.old)) }
+        ensures rest { S.tells → OnOk result (self.new.held ++ S.left source.new
+            ≡ after_line (self.old.held ++ S.left source.old)) }
         ensures text { OnOk result (length (without_end self.new.line) ≤ MOST_LINE_BYTES) }
-        ensures short { S.tells → OnOk result (length (line_bytes (self.old.held ++ S.left source.old)) ≤ MOST_LINE_BYTES) }
+        ensures short { S.tells → OnOk result
+            (length (line_bytes (self.old.held ++ S.left source.old)) ≤ MOST_LINE_BYTES) }
         ensures err { S.tells → IfErr result (λ e. e ≢ LineError.Failed → e ≢ LineError.Memory
-            → (e ≡ LineError.TooLong number) × (MOST_LINE_BYTES < length (line_bytes (self.old.held ++ S.left source.old)))) }
+            → (e ≡ LineError.TooLong number)
+            × (MOST_LINE_BYTES < length (line_bytes (self.old.held ++ S.left source.old)))) }
         ensures quiet { has_lf self.old.held ≡ true → source.new ≡ source.old }
         ensures pulls { PullsForALine S.gives self.old.held source.old source.new }
+        ensures unfinished { S.tells → IsErrOf result LineError.Failed
+            → TakesNoEnd (self.old.held ++ S.left source.old) (S.left source.new) }
         ensures small { length self.new.held ≤ 65536 }
-        ensures cause { HasLineCause (S.faults source.old) (S.faults source.new) result }
+        ensures cause { HasCause LineError.Failed (S.faults source.old) (S.faults source.new) result }
     {
         loop {
             if self.move_line(number)? {
@@ -192,16 +206,20 @@ impl Gathered {
 
     // The text of the line.
     fn text(&self, number: u32) -> Result<String, LineError>
-        ensures ok { IfOk result (λ text. (string_bytes text ≡ without_end self.now.line) × (is_utf8 (without_end self.now.line) ≡ true)) }
-        ensures err { IfErr result (λ e. e ≢ LineError.Memory → (e ≡ LineError.NotText number) × (is_utf8 (without_end self.now.line) ≡ false)) }
+        ensures ok { IfOk result (λ text. (string_bytes text ≡ without_end self.now.line)
+            × (is_utf8 (without_end self.now.line) ≡ true)) }
+        ensures err { IfErr result (λ e. e ≢ LineError.Memory
+            → (e ≡ LineError.NotText number) × (is_utf8 (without_end self.now.line) ≡ false)) }
     {
         text_of(*self.line.allocator(), &self.line, number)
     }
 }
 
 fn text_of(alloc: Global, line: &[u8], number: u32) -> Result<String, LineError>
-    ensures ok { IfOk result (λ text. (string_bytes text ≡ without_end line.now) × (is_utf8 (without_end line.now) ≡ true)) }
-    ensures err { IfErr result (λ e. e ≢ LineError.Memory → (e ≡ LineError.NotText number) × (is_utf8 (without_end line.now) ≡ false)) }
+    ensures ok { IfOk result (λ text. (string_bytes text ≡ without_end line.now)
+        × (is_utf8 (without_end line.now) ≡ true)) }
+    ensures err { IfErr result (λ e. e ≢ LineError.Memory
+        → (e ≡ LineError.NotText number) × (is_utf8 (without_end line.now) ≡ false)) }
 {
     match str::from_utf8(without_line_end(line)) {
         Ok(text) => Ok(String::from_str(alloc, text)?),
@@ -290,24 +308,33 @@ impl LineReader {
     /// The next line of what was held and what the source has left, or None at the end of input.
     ///
     /// After an error it answers the same error again, and leaves the source alone. `Failed` comes
-    /// for the first time only where the source's count of faults rose.
+    /// for the first time only where the source's count of faults rose, and then no line is lost
+    /// whose end was read: what this call took off the bytes ahead has no LF.
     pub fn next_line<S: Source>(&mut self, source: &mut S) -> Result<Option<Line>, LineError>
         ensures answer { S.tells → self.old.stuck ≡ None
             → IsUnlessBroken result (next_of self.old.given (self.old.held ++ S.left source.old)) }
-        ensures rest { S.tells → OnOk result (self.new.held ++ S.left source.new ≡ after_line (self.old.held ++ S.left source.old)) }
-        ensures lines { S.tells → IfOk result (λ line. lines (self.old.held ++ S.left source.old) ≡ texts_of line ++ lines (self.new.held ++ S.left source.new)) }
-        ensures number { IfOk result (λ line. IfSome line (λ line. line.number ≡ self.old.given + 1)) }
+        ensures rest { S.tells → OnOk result (self.new.held ++ S.left source.new
+            ≡ after_line (self.old.held ++ S.left source.old)) }
+        ensures lines { S.tells → IfOk result (λ line. lines (self.old.held ++ S.left source.old)
+            ≡ texts_of line ++ lines (self.new.held ++ S.left source.new)) }
+        ensures number { IfOk result
+            (λ line. IfSome line (λ line. line.number ≡ self.old.given + 1)) }
         ensures within { IfOk result (λ line. IfSome line (λ line. line.number ≤ MOST_LINES)) }
-        ensures short { IfOk result (λ line. IfSome line (λ line. length line.text ≤ MOST_LINE_BYTES)) }
-        ensures given { IfOk result (λ line. self.new.given ≡ (if is_some line then self.old.given + 1 else self.old.given)) }
+        ensures short { IfOk result (λ line. IfSome line
+            (λ line. length line.text ≤ MOST_LINE_BYTES)) }
+        ensures given { IfOk result (λ line. self.new.given
+            ≡ (if is_some line then self.old.given + 1 else self.old.given)) }
         ensures stuck { self.new.stuck ≡ result_err result }
         ensures again { IfSome self.old.stuck (λ e. result ≡ Err e) }
         ensures alone { IfSome self.old.stuck (λ _. source.new ≡ source.old) }
         ensures quiet { has_lf self.old.held ≡ true → source.new ≡ source.old }
         ensures pulls { PullsForALine S.gives self.old.held source.old source.new }
+        ensures unfinished { S.tells → self.old.stuck ≡ None → IsErrOf result LineError.Failed
+            → TakesNoEnd (self.old.held ++ S.left source.old) (S.left source.new) }
         ensures small { length self.new.held ≤ 65536 }
         ensures later { S.faults source.old ≤ S.faults source.new }
-        ensures failed { self.old.stuck ≡ None → IsErrOf result LineError.Failed → Rose (S.faults source.old) (S.faults source.new) }
+        ensures failed { self.old.stuck ≡ None → IsErrOf result LineError.Failed
+            → Rose (S.faults source.old) (S.faults source.new) }
     {
         if let Some(error) = self.stuck {
             return Err(error);
@@ -321,17 +348,25 @@ impl LineReader {
 
     // The next line, where no error was answered.
     fn read_line<S: Source>(&mut self, source: &mut S) -> Result<Option<Line>, LineError>
-        ensures answer { S.tells → IsUnlessBroken result (next_of self.old.given (self.old.held ++ S.left source.old)) }
-        ensures rest { S.tells → OnOk result (self.new.held ++ S.left source.new ≡ after_line (self.old.held ++ S.left source.old)) }
-        ensures lines { S.tells → IfOk result (λ line. lines (self.old.held ++ S.left source.old) ≡ texts_of line ++ lines (self.new.held ++ S.left source.new)) }
-        ensures number { IfOk result (λ line. IfSome line (λ line. line.number ≡ self.old.given + 1)) }
+        ensures answer { S.tells
+            → IsUnlessBroken result (next_of self.old.given (self.old.held ++ S.left source.old)) }
+        ensures rest { S.tells → OnOk result (self.new.held ++ S.left source.new
+            ≡ after_line (self.old.held ++ S.left source.old)) }
+        ensures lines { S.tells → IfOk result (λ line. lines (self.old.held ++ S.left source.old)
+            ≡ texts_of line ++ lines (self.new.held ++ S.left source.new)) }
+        ensures number { IfOk result
+            (λ line. IfSome line (λ line. line.number ≡ self.old.given + 1)) }
         ensures within { IfOk result (λ line. IfSome line (λ line. line.number ≤ MOST_LINES)) }
-        ensures short { IfOk result (λ line. IfSome line (λ line. length line.text ≤ MOST_LINE_BYTES)) }
-        ensures given { IfOk result (λ line. self.new.given ≡ (if is_some line then self.old.given + 1 else self.old.given)) }
+        ensures short { IfOk result (λ line. IfSome line
+            (λ line. length line.text ≤ MOST_LINE_BYTES)) }
+        ensures given { IfOk result (λ line. self.new.given
+            ≡ (if is_some line then self.old.given + 1 else self.old.given)) }
         ensures stuck { self.new.stuck ≡ self.old.stuck }
         ensures quiet { has_lf self.old.held ≡ true → source.new ≡ source.old }
         ensures pulls { PullsForALine S.gives self.old.held source.old source.new }
-        ensures cause { HasLineCause (S.faults source.old) (S.faults source.new) result }
+        ensures unfinished { S.tells → IsErrOf result LineError.Failed
+            → TakesNoEnd (self.old.held ++ S.left source.old) (S.left source.new) }
+        ensures cause { HasCause LineError.Failed (S.faults source.old) (S.faults source.new) result }
     {
         self.gathered.clear_line();
         if !self.gathered.fill(source)? {

@@ -1,6 +1,6 @@
 // A source and a sink in memory, which fail where they are told to.
 ghost use Rattle.std.specs.Prelude.{◌≡◌, ◌<◌, ◌≤◌, ◌↔◌, ◌++◌, [], length, vec_len, take, drop, min, Contains, IfOk, OnOk, OnErr, IsErrOf};
-ghost use Rattle.io_edge.specs.Cause.{HasCause};
+ghost use Rattle.fault_count.specs.Causes.{HasCause};
 ghost use Rattle.io_edge.specs.Mem.{SourceState, SinkState, OnePull, next_count};
 
 use crate::error::count_fault;
@@ -28,7 +28,13 @@ impl Model for MemSource {
 
     ghost Value = { SourceState };
 
-    ghost view = { λ a. record { left = drop a.given a.bytes.items; piece = a.piece; calls = a.calls; fails = a.fails.items; faults = a.faults } };
+    ghost view = { λ a. record {
+      left = drop a.given a.bytes.items;
+      piece = a.piece;
+      calls = a.calls;
+      fails = a.fails.items;
+      faults = a.faults;
+    } };
 
     ghost invariant = { λ a. (a.given ≤ vec_len a.bytes) × (0 < a.piece) };
 }
@@ -38,7 +44,13 @@ impl MemSource {
     /// counted from 0, stand in `fails` answer `Failed`.
     pub fn new(bytes: Vec<u8>, piece: u32, fails: Vec<u64>) -> MemSource
         requires { 0 < piece }
-        ensures { result ≡ record { left = bytes.items; piece = piece; calls = 0; fails = fails.items; faults = 0 } }
+        ensures { result ≡ record {
+          left = bytes.items;
+          piece = piece;
+          calls = 0;
+          fails = fails.items;
+          faults = 0;
+        } }
     {
         MemSource {
             bytes,
@@ -65,9 +77,18 @@ impl Source for MemSource {
     fn pull(&mut self, most: u32) -> Result<Vec<u8>, IoError>
         requires { 0 < most }
         ensures fails_exactly { IsErrOf result IoError.Failed ↔ Contains self.old.fails self.old.calls }
-        ensures given { IfOk result (λ piece. piece.items ≡ take (min self.old.piece most) self.old.left) }
-        ensures ok { IfOk result (λ piece. self.new ≡ record self.old { left = drop (vec_len piece) self.old.left; calls = next_count self.old.calls }) }
-        ensures failed { OnErr result (self.new ≡ record self.old { calls = next_count self.old.calls; faults = self.new.faults }) }
+        ensures given { IfOk result
+            (λ piece. piece.items ≡ take (min self.old.piece most) self.old.left) }
+        ensures ok { IfOk result
+            (λ piece. self.new ≡ record self.old {
+              left = drop (vec_len piece) self.old.left;
+              calls = next_count self.old.calls;
+            }) }
+        ensures failed { OnErr result
+            (self.new ≡ record self.old {
+              calls = next_count self.old.calls;
+              faults = self.new.faults;
+            }) }
         ensures memory { IsErrOf result IoError.Memory → self.new.faults ≡ self.old.faults }
         ensures at_most { IfOk result (λ piece. vec_len piece ≤ most) }
         ensures taken { IfOk result (λ piece. self.old.left ≡ piece.items ++ self.new.left) }
@@ -75,7 +96,7 @@ impl Source for MemSource {
         ensures err { OnErr result (self.new.left ≡ self.old.left) }
         ensures gave { IfOk result (λ piece. OnePull self.old piece.items self.new) }
         ensures gave_none { OnErr result (OnePull self.old [] self.new) }
-        ensures cause { HasCause self.old.faults self.new.faults result }
+        ensures cause { HasCause IoError.Failed self.old.faults self.new.faults result }
     {
         let call = self.calls;
         self.calls = call.saturating_add(1);
@@ -107,7 +128,12 @@ impl Model for MemSink {
 
     ghost Value = { SinkState };
 
-    ghost view = { λ a. record { bytes = a.bytes.items; calls = a.calls; fails = a.fails.items; faults = a.faults } };
+    ghost view = { λ a. record {
+      bytes = a.bytes.items;
+      calls = a.calls;
+      fails = a.fails.items;
+      faults = a.faults;
+    } };
 }
 
 impl MemSink {
@@ -142,14 +168,22 @@ impl Sink for MemSink {
     fn push(&mut self, piece: &[u8]) -> Result<usize, IoError>
         ensures fails_exactly { IsErrOf result IoError.Failed ↔ Contains self.old.fails self.old.calls }
         ensures whole { IfOk result (λ n. n ≡ length piece.now) }
-        ensures ok { OnOk result (self.new ≡ record self.old { bytes = self.old.bytes ++ piece.now; calls = next_count self.old.calls }) }
-        ensures failed { OnErr result (self.new ≡ record self.old { calls = next_count self.old.calls; faults = self.new.faults }) }
+        ensures ok { OnOk result
+            (self.new ≡ record self.old {
+              bytes = self.old.bytes ++ piece.now;
+              calls = next_count self.old.calls;
+            }) }
+        ensures failed { OnErr result
+            (self.new ≡ record self.old {
+              calls = next_count self.old.calls;
+              faults = self.new.faults;
+            }) }
         ensures memory { IsErrOf result IoError.Memory → self.new.faults ≡ self.old.faults }
         ensures at_most { IfOk result (λ n. n ≤ length piece.now) }
         ensures at_least { 0 < length piece.now → IfOk result (λ n. 0 < n) }
         ensures appends { IfOk result (λ n. self.new.bytes ≡ self.old.bytes ++ take n piece.now) }
         ensures err { OnErr result (self.new.bytes ≡ self.old.bytes) }
-        ensures cause { HasCause self.old.faults self.new.faults result }
+        ensures cause { HasCause IoError.Failed self.old.faults self.new.faults result }
     {
         let call = self.calls;
         self.calls = call.saturating_add(1);

@@ -1,6 +1,6 @@
 // Where bytes go.
 ghost use Rattle.std.specs.Prelude.{◌≡◌, ◌<◌, ◌≤◌, ◌++◌, ℕ, List, length, take, IfOk, OnOk, OnErr};
-ghost use Rattle.io_edge.specs.Cause.{HasCause};
+ghost use Rattle.fault_count.specs.Causes.{HasCause};
 ghost use Rattle.io_edge.specs.Appends.{AppendsPrefix};
 
 use crate::IoError;
@@ -25,9 +25,10 @@ pub trait Sink {
     fn push(&mut self, piece: &[u8]) -> Result<usize, IoError>
         ensures at_most { IfOk result (λ n. n ≤ length piece.now) }
         ensures at_least { 0 < length piece.now → IfOk result (λ n. 0 < n) }
-        ensures appends { tells → IfOk result (λ n. written self.new ≡ written self.old ++ take n piece.now) }
+        ensures appends { tells
+            → IfOk result (λ n. written self.new ≡ written self.old ++ take n piece.now) }
         ensures err { tells → OnErr result (written self.new ≡ written self.old) }
-        ensures cause { HasCause (faults self.old) (faults self.new) result };
+        ensures cause { HasCause IoError.Failed (faults self.old) (faults self.new) result };
 }
 
 /// Writes all the bytes.
@@ -36,8 +37,9 @@ pub trait Sink {
 /// sink's count of faults rose.
 pub fn push_all<K: Sink>(sink: &mut K, bytes: &[u8]) -> Result<(), IoError>
     ensures ok { K.tells → OnOk result (K.written sink.new ≡ K.written sink.old ++ bytes.now) }
-    ensures err { K.tells → OnErr result (AppendsPrefix (K.written sink.old) (K.written sink.new) bytes.now) }
-    ensures cause { HasCause (K.faults sink.old) (K.faults sink.new) result }
+    ensures err { K.tells
+        → OnErr result (AppendsPrefix (K.written sink.old) (K.written sink.new) bytes.now) }
+    ensures cause { HasCause IoError.Failed (K.faults sink.old) (K.faults sink.new) result }
 {
     let mut done = 0;
     while done < bytes.len() {

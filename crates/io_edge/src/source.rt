@@ -1,6 +1,6 @@
 // Where bytes come from.
 ghost use Rattle.std.specs.Prelude.{◌≡◌, ◌<◌, ◌≤◌, ◌↔◌, ◌++◌, ℕ, List, [], vec_len, IfOk, OnErr};
-ghost use Rattle.io_edge.specs.Cause.{HasCause};
+ghost use Rattle.fault_count.specs.Causes.{HasCause};
 ghost use Rattle.io_edge.specs.Pulls.{GivesOff};
 
 use crate::IoError;
@@ -32,10 +32,11 @@ pub trait Source {
     fn pull(&mut self, most: u32) -> Result<Vec<u8>, IoError>
         requires { 0 < most }
         ensures at_most { IfOk result (λ piece. vec_len piece ≤ most) }
-        ensures taken { tells → IfOk result (λ piece. left self.old ≡ piece.items ++ left self.new) }
+        ensures taken { tells
+            → IfOk result (λ piece. left self.old ≡ piece.items ++ left self.new) }
         ensures end { tells → IfOk result (λ piece. (piece.items ≡ []) ↔ (left self.old ≡ [])) }
         ensures err { tells → OnErr result (left self.new ≡ left self.old) }
         ensures gave { IfOk result (λ piece. gives self.old piece.items self.new) }
         ensures gave_none { OnErr result (gives self.old [] self.new) }
-        ensures cause { HasCause (faults self.old) (faults self.new) result };
+        ensures cause { HasCause IoError.Failed (faults self.old) (faults self.new) result };
 }

@@ -7,9 +7,10 @@ use crate::{
     StdSink, StdSource, push_all,
 };
 use std::alloc::{AllocError, Allocator, Global};
+use std::cell::Cell;
 use std::fmt::Display;
 use std::io;
-use std::io::{BufRead, Lines};
+use std::io::{BufRead, Lines, Read};
 use std::process::Abort;
 use std::time::{CpuClock, Duration};
 
@@ -244,9 +245,13 @@ fn fails_at_the_pushes_that_are_named(rt: HostRuntime) {
     assert_eq!(&rt; sink.written(), b"ace".as_slice());
 }
 
-// Output that takes at most so many bytes a call, or fails.
+// Output that is interrupted so often, and then takes at most so many bytes a call, or fails.
 #[derive(Drop)]
-struct Narrow(Option<usize>);
+struct Narrow(Cell<u8>, Option<usize>);
+
+fn interrupted(most: Option<usize>) -> Narrow {
+    Narrow(Cell::new(2), most)
+}
 
 impl Print for Narrow {
     fn print<D: Display + Drop>(&self, _: D) -> io::Result<()> {
@@ -262,7 +267,10 @@ impl Print for Narrow {
     }
 
     fn write_some(&self, bytes: &[u8]) -> io::Result<usize> {
-        match self.0 {
+        let interrupts = self.0.get();
+        self.0.set(interrupts.saturating_sub(1));
+        match self.1 {
+            _ if interrupts > 0 => Err(io::Error::from(io::ErrorKind::Interrupted)),
             Some(most) => Ok(most.min(bytes.len())),
             None => Err(io::Error::from(io::ErrorKind::StorageFull)),
         }
@@ -272,47 +280,73 @@ impl Print for Narrow {
 #[test]
 fn pushes_on_where_output_takes_little_and_fails_where_it_takes_nothing(rt: HostRuntime) {
     for most in [1, 2, 9] {
-        let mut sink = StdSink::new(Narrow(Some(most)));
+        let mut sink = StdSink::new(interrupted(Some(most)));
         assert_eq!(&rt; sink.push(b"abc"), Ok(most.min(3)));
         assert!(&rt; push_all(&mut sink, b"abcdefgh").is_ok());
         assert_eq!(&rt; sink.push(b""), Ok(0));
     }
     for most in [Some(0), None] {
-        let mut sink = StdSink::new(Narrow(most));
+        let mut sink = StdSink::new(interrupted(most));
         assert_eq!(&rt; sink.push(b"abc"), Err(IoError::Failed));
         assert_eq!(&rt; push_all(&mut sink, b"abc"), Err(IoError::Failed));
         assert!(&rt; push_all(&mut sink, b"").is_ok());
     }
 }
 
-// Input that begins with these bytes at each call.
+// A reader that is interrupted so often, and then gives these bytes.
+#[derive(Drop)]
+struct Shaky(u8, &'static [u8]);
+
+impl Read for Shaky {
+    fn read(&mut self, buf: &mut [u8]) -> io::Result<usize> {
+        if self.0 > 0 {
+            self.0 -= 1;
+            return Err(io::Error::from(io::ErrorKind::Interrupted));
+        }
+        self.1.read(buf)
+    }
+}
+
+impl BufRead for Shaky {
+    fn fill_buf(&mut self) -> io::Result<&[u8]> {
+        Ok(self.1)
+    }
+
+    fn consume(&mut self, amount: usize) {
+        self.1 = self.1.get(amount..).unwrap_or(b"");
+    }
+}
+
+// Input that begins with two interrupts and these bytes at each call.
 #[derive(Drop)]
 struct Always(&'static [u8]);
 
 impl Input for Always {
-    type Reader = &'static [u8];
+    type Reader = Shaky;
 
     fn read_line<A: Allocator + Clone>(&self, buf: &mut String<A>) -> io::Result<usize> {
         self.reader().read_line(buf)
     }
 
-    fn lines<A: Allocator>(&self, alloc: A) -> Lines<&'static [u8], A> {
+    fn lines<A: Allocator>(&self, alloc: A) -> Lines<Shaky, A> {
         self.reader().lines(alloc)
     }
 
-    fn reader(&self) -> &'static [u8] {
-        self.0
+    fn reader(&self) -> Shaky {
+        Shaky(2, self.0)
     }
 }
 
 #[test]
-fn pulls_what_the_input_gives(rt: HostRuntime) {
-    let mut source = StdSource::new((Always(b"abc"), rt.alloc()));
-    let piece = source.pull(2).expect(&rt, "bytes");
-    assert_eq!(&rt; piece.as_slice(), b"ab".as_slice());
-    let piece = source.pull(u32::MAX).expect(&rt, "bytes");
-    assert_eq!(&rt; piece.as_slice(), b"abc".as_slice());
-    let mut source = StdSource::new((Always(b""), rt.alloc()));
-    let piece = source.pull(2).expect(&rt, "the end");
-    assert!(&rt; piece.is_empty());
+fn pulls_what_the_input_gives_after_interrupts(rt: HostRuntime) {
+    let table: [(&[u8], u32, &[u8]); 3] = [
+        (b"abc", 2, b"ab"),
+        (b"abc", u32::MAX, b"abc"),
+        (b"", 2, b""),
+    ];
+    for (bytes, most, want) in table {
+        let mut source = StdSource::new((Always(bytes), rt.alloc()));
+        let piece = source.pull(most).expect(&rt, "bytes");
+        assert_eq!(&rt; piece.as_slice(), want);
+    }
 }

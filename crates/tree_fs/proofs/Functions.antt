@@ -1,6 +1,7 @@
 -- Functions that differ at one place.
-use Rattle.std.proofs.Common.{◌≡◌, ◌≢◌, ◌⊎◌, ℕ, ◌==◌, Bool, true, false, refl, sym, ap, ◌∙◌, arith, inl, inr}
-use Rattle.std.proofs.lemmas.Bool.Decides.{Decides-eqb}
+use Rattle.std.proofs.Common.{◌≡◌, ◌≢◌, ◌⊎◌, ℕ, refl, sym, ap, ◌∙◌, arith, inl, inr}
+use Rattle.std.proofs.lemmas.Bool.Decides.{eqb_tells}
+pub use Rattle.list_laws.proofs.Truths.{same_function}
 use Rattle.tree_fs.specs.Spot.{Spot}
 use Rattle.tree_fs.specs.Disk.{Disk, set_at, set_number}
 use Rattle.tree_fs.proofs.Spots.{spot_eq-same, spot_eq_tells}
@@ -20,26 +21,15 @@ set_at-other f p x q ne = grind (arith, set_at_tells)
 pub set_at-value : {X : Type 0} (f : Spot → X) (p : Spot) (x : X) (q : Spot) → f p ≡ x → set_at f p x q ≡ f q
 set_at-value f p x q is = elim (set_at_tells f p x q) [ inl s ↦ s.0 ∙ sym is ∙ ap f (sym s.1) | inr s ↦ s.0 ]
 
-number_tells : (m n : ℕ) → (((m == n) ≡ true) × (m ≡ n)) ⊎ (((m == n) ≡ false) × (m ≢ n))
-number_tells m n = by_test (m == n) refl
-  where
-    by_test : (b : Bool) → (m == n) ≡ b → (((m == n) ≡ true) × (m ≡ n)) ⊎ (((m == n) ≡ false) × (m ≢ n))
-    by_test true e = inl (e, (Decides-eqb m n).0 e)
-    by_test false e = inr (e, λ is. let h : (m == n) ≡ true = (Decides-eqb m n).1 is in cc)
-
 pub set_number_tells : {X : Type 0} (f : ℕ → X) (n : ℕ) (x : X) (k : ℕ) → ((set_number f n x k ≡ x) × (k ≡ n)) ⊎ ((set_number f n x k ≡ f k) × (k ≢ n))
 unfolding set_number
-set_number_tells f n x k = grind (arith, number_tells)
+set_number_tells f n x k = grind (arith, eqb_tells)
 
 pub set_number-same : {X : Type 0} (f : ℕ → X) (n : ℕ) (x : X) → set_number f n x n ≡ x
 set_number-same f n x = elim (set_number_tells f n x n) [ inl s ↦ s.0 | inr s ↦ absurd (s.1 refl) ]
 
 pub set_number-other : {X : Type 0} (f : ℕ → X) (n : ℕ) (x : X) (k : ℕ) → k ≢ n → set_number f n x k ≡ f k
 set_number-other f n x k ne = elim (set_number_tells f n x k) [ inl s ↦ absurd (ne s.1) | inr s ↦ s.0 ]
-
--- two functions with the same values are one
-pub same_function : {A B : Type 0} (f g : A → B) → ((x : A) → f x ≡ g x) → f ≡ g
-same_function f g h = λ i x. h x i
 
 -- two disks that agree in every part are one
 pub record SameDisk (d e : Disk) : Type 0 where

@@ -5,7 +5,8 @@ use Rattle.tree_fs.specs.declared.op.Op.TheVariants.{Link, Unlink, Rename, Creat
 use Rattle.tree_fs.specs.Spot.{Spot, spot_of}
 use Rattle.tree_fs.specs.Disk.{Disk, none, file, set_number, put, created, renamed, after}
 use Rattle.tree_fs.proofs.Disks.{MayHold-put_keeps}
-use Rattle.tree_fs.proofs.Ops.{HoldsWithin, within-same, within-put, within-synced, is_one_file_tells, renamed-one, renamed-apart}
+use Rattle.tree_fs.specs.Frames.{HoldsWithin}
+use Rattle.tree_fs.proofs.Ops.{within-same, within-put, within-synced, is_one_file_tells, renamed-one, renamed-apart}
 use Rattle.tree_fs.proofs.Files.{SamePlaces, same_places-hold, filled-places, made_firm-places}
 
 pub within-same_places : (d e : Disk) → SamePlaces d e → HoldsWithin e d

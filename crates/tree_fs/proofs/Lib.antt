@@ -16,3 +16,6 @@ pub mod Parts
 pub mod Listings
 pub mod PlaceSpots
 pub mod NewFiles
+pub mod Below
+pub mod Frames
+pub mod Fewer

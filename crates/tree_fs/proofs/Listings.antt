@@ -7,7 +7,8 @@ use Rattle.tree_fs.specs.declared.name.Kind.TheVariants.{Absent}
 use Rattle.tree_fs.specs.Spot.{Spot, below}
 use Rattle.tree_fs.specs.Disk.{Disk, kind_of}
 use Rattle.tree_fs.specs.Listing.{entry_names, IsEntry, IsListing}
-use Rattle.tree_fs.proofs.Lists.{all_item, all_this, contains_map}
+use Rattle.list_laws.proofs.Alls.{all_item, all_this}
+use Rattle.list_laws.proofs.Containing.{contains_map}
 
 -- each item is an entry of the folder
 pub listed_item : (d : Disk) (folder : Spot) (entries : List Entry) (e : Entry) → IsListing d folder entries → Contains entries e → IsEntry d folder e

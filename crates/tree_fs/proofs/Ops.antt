@@ -7,6 +7,7 @@ use Rattle.tree_fs.specs.declared.place.Place.{Place}
 use Rattle.tree_fs.specs.Spot.{Spot, spot_of, is_entry}
 use Rattle.tree_fs.specs.Disk.{Disk, Value, none, file, odd, MayHold, IsFile, IsValid, set_number, put, synced, is_one_file, renamed, after}
 use Rattle.tree_fs.specs.Calls.{CanLink, CanUnlink, CanRename, CanPut}
+use Rattle.tree_fs.specs.Frames.{HoldsWithin, SameFiles}
 use Rattle.tree_fs.proofs.Functions.{set_at-same, set_at-other, set_number-same, set_number-other}
 use Rattle.tree_fs.proofs.Disks.{now-put_at, now-put_other, MayHold-put, MayHold-put_keeps, MayHold-synced, before-synced_in, file-no_folder, valid-put, valid-synced, file-number}
 
@@ -132,12 +133,6 @@ MayHold-renamed d from to q v h = elim (is_one_file_tells (d.now from) (d.now to
 ]
 
 -- all but the values of places stays
-pub record SameFiles (d e : Disk) : Type 0 where
-  pub folders : e.folders ≡ d.folders
-  pub bytes : e.bytes ≡ d.bytes
-  pub firm : e.firm ≡ d.firm
-  pub fresh : e.fresh ≡ d.fresh
-
 pub same_files : (d : Disk) → SameFiles d d
 same_files d = record { folders = refl; bytes = refl; firm = refl; fresh = refl }
 
@@ -220,10 +215,6 @@ valid-folder_synced d at true valid = valid-synced d (spot_of at) valid
 valid-folder_synced d at false valid = valid
 
 -- What places may hold, over all steps.
-
--- what a place may hold on the one disk it may hold on the other
-abbrev pub HoldsWithin : Disk → Disk → Type 0
-HoldsWithin d e = (q : Spot) (v : Value) → MayHold d q v → MayHold e q v
 
 pub within-same : (d : Disk) → HoldsWithin d d
 within-same d q v h = h

@@ -1,16 +1,15 @@
 -- The parts of a place's text: the word before the first slash, and the path behind it.
-use Rattle.std.proofs.Common.{◌≡◌, ◌≢◌, ◌⊎◌, ℕ, zero, suc, ◌+◌, ◌-◌, ◌<◌, ◌≤◌, ◌==◌, Bool, true, false, not, nat_lt, nat_le, cond, List, [], ◌∷◌, ◌++◌, length, get_or, take, refl, sym, ap, ◌∙◌, inl, inr, arith}
-use Rattle.std.specs.Prelude.{position}
+use Rattle.std.proofs.Common.{◌≡◌, ◌≢◌, ℕ, zero, suc, ◌+◌, ◌-◌, ◌<◌, ◌≤◌, ◌==◌, Bool, true, false, not, nat_lt, nat_le, cond, List, [], ◌∷◌, ◌++◌, length, get_or, take, refl, sym, ap, ◌∙◌, inl, inr, arith}
 use Rattle.std.specs.Str.{bytes_eq}
-use Rattle.std.specs.List.{position_or_len}
 use Rattle.std.specs.Option.{option_map}
 use Rattle.std.specs.declared.option.Option.{Option}
 use Rattle.std.specs.declared.option.Option.TheVariants.{None, Some}
 use Rattle.std.proofs.lemmas.Bool.Decides.{eqb_tells, nat_tests}
-use Rattle.std.proofs.lemmas.Slice.Eq.{bytes_eq-Decides}
+use Rattle.list_laws.proofs.Positions.{place_below}
+use Rattle.list_laws.proofs.Texts.{bytes_eq_tells}
 use Rattle.rel_paths.specs.declared.error.PathError.{PathError}
-use Rattle.rel_paths.specs.declared.error.PathError.TheVariants.{Empty, Long, Deep, BadName, Memory}
-use Rattle.rel_paths.specs.Names.{names_of, is_good_name, is_name_within, user_limits, Explains, bad_name_fault, path_fault, held_limits, IsHeldPath, IsUserPath, IsModId, joined, parent_names}
+use Rattle.rel_paths.specs.declared.error.PathError.TheVariants.{Empty, Long, Deep, BadName}
+use Rattle.rel_paths.specs.Names.{names_of, is_good_name, is_name_within, user_limits, bad_name_fault, path_fault, held_limits, IsHeldPath, IsUserPath, IsModId, joined, parent_names}
 use Rattle.rel_paths.proofs.Limits.{IsWithin-from_fault, IsHeldPath-user, IsHeldPath-joined}
 use Rattle.rel_paths.proofs.NamesOf.{has_names}
 use Rattle.rel_paths.proofs.Truths.{both, true_le}
@@ -61,22 +60,15 @@ pub place_fault-root : (text : List ℕ) → LacksSlash text → place_fault tex
 unfolding place_fault
 place_fault-root text h = λ i. fault_below (root_named (word_of-all text h i)) (below_word-none text h i)
 
-eq_tells : (a b : List ℕ) → ((bytes_eq a b ≡ true) × (a ≡ b)) ⊎ (bytes_eq a b ≡ false)
-eq_tells a b = by_test (bytes_eq a b) refl
-  where
-    by_test : (t : Bool) → bytes_eq a b ≡ t → ((bytes_eq a b ≡ true) × (a ≡ b)) ⊎ (bytes_eq a b ≡ false)
-    by_test true e = inl (e, (bytes_eq-Decides a b).0 e)
-    by_test false e = inr e
-
 -- a root's name is its word
 pub root_named-word : (word : List ℕ) (r : Root) → root_named word ≡ Some r → word ≡ root_word r
-root_named-word word r e = elim (eq_tells word (root_word Stage)) [
+root_named-word word r e = elim (bytes_eq_tells word (root_word Stage)) [
   | inl s ↦ let is : Stage ≡ r = by_stage s.0 in s.1 ∙ ap root_word is
-  | inr not_stage ↦ elim (eq_tells word (root_word Game)) [
-    | inl s ↦ let is : Game ≡ r = by_game not_stage s.0 in s.1 ∙ ap root_word is
-    | inr not_game ↦ elim (eq_tells word (root_word Keep)) [
-      | inl s ↦ let is : Keep ≡ r = by_keep not_stage not_game s.0 in s.1 ∙ ap root_word is
-      | inr not_keep ↦ absurd (by_none not_stage not_game not_keep)
+  | inr not_stage ↦ elim (bytes_eq_tells word (root_word Game)) [
+    | inl s ↦ let is : Game ≡ r = by_game not_stage.0 s.0 in s.1 ∙ ap root_word is
+    | inr not_game ↦ elim (bytes_eq_tells word (root_word Keep)) [
+      | inl s ↦ let is : Keep ≡ r = by_keep not_stage.0 not_game.0 s.0 in s.1 ∙ ap root_word is
+      | inr not_keep ↦ absurd (by_none not_stage.0 not_game.0 not_keep.0)
     ]
   ]
 ]
@@ -124,18 +116,11 @@ bad_name_below false false true o k e = absurd (cc)
 bad_name_below false false false None k e = absurd (cc)
 bad_name_below false false false (Some j) k e = let is : j ≡ k = cc in (refl, ap Some is)
 
-position_below : {X : Type 0} (p : X → Bool) (xs : List X) (k : ℕ) → position p xs ≡ Some k → k < length xs
-position_below p xs k e =
-    elim (nat_lt (position_or_len p xs) (length xs)) as (λ b. nat_lt (position_or_len p xs) (length xs) ≡ b → cond b (Some (position_or_len p xs)) None ≡ Some k → k < length xs) [
-      | true ↦ λ t q. let is : position_or_len p xs ≡ k = cc in grind (arith, nat_tests)
-      | false ↦ λ t q. absurd (cc)
-    ] refl e
-
 pub bad_name-below : (text : List ℕ) (k : ℕ) → path_fault held_limits text ≡ Some (BadName k) → k < 72
 unfolding path_fault
 bad_name-below text k e =
     let found = bad_name_below _ _ _ _ k e in
-    let lt : k < length (names_of text) = position_below (λ n. not (is_name_within 254 n)) (names_of text) k found.1 in
+    let lt : k < length (names_of text) = place_below (λ n. not (is_name_within 254 n)) (names_of text) k found.1 in
     let few : nat_lt 72 (length (names_of text)) ≡ false = found.0 in
     grind (arith, nat_tests)
 
@@ -148,14 +133,6 @@ IsHeldPath-staged id path good user =
     let bytes : length path ≤ 1024 = within.bytes in
     let names : length (names_of path) ≤ 64 = within.names in
     IsHeldPath-joined id path (IsHeldPath-id id good) (IsHeldPath-user path user) (omega arith) (omega arith)
-
--- a fault of what is a user path can only be want of memory
-pub fault-memory : (text : List ℕ) (e : PathError) → Explains e (path_fault user_limits text) → IsUserPath text → e ≡ Memory
-fault-memory text Memory h user = refl
-fault-memory text Empty h user = let never = sym user ∙ h in absurd (cc)
-fault-memory text Long h user = let never = sym user ∙ h in absurd (cc)
-fault-memory text Deep h user = let never = sym user ∙ h in absurd (cc)
-fault-memory text (BadName k) h user = let never = sym user ∙ h in absurd (cc)
 
 -- all names but the last, in the words of paths
 front-take : (names : List (List ℕ)) (n : ℕ) → length names ≡ n + 1 → front_names names ≡ take n names

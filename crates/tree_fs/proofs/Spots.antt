@@ -1,11 +1,13 @@
 -- Spots: when two are one, what lies in a folder.
-use Rattle.std.proofs.Common.{◌≡◌, ◌≢◌, ◌⊎◌, ℕ, Bool, true, false, ◌&&◌, List, [], ◌∷◌, ◌++◌, refl, sym, ap, ◌∙◌, inl, inr, append-nil}
+use Rattle.std.proofs.Common.{◌≡◌, ◌≢◌, ◌⊎◌, ℕ, Bool, true, false, List, [], ◌∷◌, ◌++◌, refl, sym, ap, ◌∙◌, inl, inr, append-nil}
 use Rattle.std.specs.Bool.{Decides}
 use Rattle.std.specs.declared.option.Option.{Option}
 use Rattle.std.specs.declared.option.Option.TheVariants.{None, Some}
 use Rattle.std.proofs.lemmas.Bool.Decides.{Decides-and, Decides-like}
 use Rattle.std.proofs.lemmas.List.{append_cancel_left}
 use Rattle.std.proofs.lemmas.Slice.Eq.{slice_eq-Decides, bytes_eq-Decides}
+use Rattle.std.proofs.lemmas.Bool.{and_parts}
+use Rattle.list_laws.proofs.Truths.{tells}
 use Rattle.rel_paths.specs.Names.{names_of}
 use Rattle.rel_paths.proofs.NamesOf.{has_names, same_text}
 use Rattle.tree_fs.specs.declared.place.Place.{Place}
@@ -31,14 +33,6 @@ root_eq-same Keep = refl
 
 pub root_eq-Decides : (r s : Root) → Decides (root_eq r s) (r ≡ s)
 root_eq-Decides r s = (root_eq-true r s, λ e. ap (root_eq r) (sym e) ∙ root_eq-same r)
-
-and-true : (a b : Bool) → (a && b) ≡ true → (a ≡ true) × (b ≡ true)
-and-true true b e = (refl, e)
-and-true false b e = absurd (cc)
-
-tells : {P : Type 0} (b : Bool) → Decides b P → ((b ≡ true) × P) ⊎ ((b ≡ false) × (P → ⊥))
-tells true d = inl (refl, d.0 refl)
-tells false d = inr (refl, λ h. let e : false ≡ true = d.1 h in cc)
 
 -- each test with what it tells, for `grind`
 pub root_eq_tells : (r s : Root) → ((root_eq r s ≡ true) × (r ≡ s)) ⊎ ((root_eq r s ≡ false) × (r ≢ s))
@@ -96,7 +90,7 @@ is_entry-below folder name = rw (has_some-snoc, parent-below) (spot_eq-same fold
 pub is_entry-name : (folder q : Spot) → is_entry folder q ≡ true → (n : List ℕ) × (q ≡ below folder n)
 unfolding is_entry parent
 is_entry-name folder q e =
-    let both = and-true (has_some q.names) _ e in
+    let both = and_parts (has_some q.names) _ e in
     let last = last_of q.names both.0 in
     let up : parent q ≡ folder = spot_eq-true _ _ both.1 in
     (last.0, same_spot q (below folder last.0) (ap (λ s. s.root) up) (last.1 ∙ ap (λ s. s.names ++ last.0 ∷ []) up))

@@ -1,5 +1,5 @@
 -- Stories: what comes after what.
-use Rattle.std.proofs.Common.{◌≡◌, ◌⊎◌, ℕ, Bool, true, false, List, [], ◌∷◌, ◌++◌, refl, sym, ap, ◌∙◌, inl, inr, subst, append_assoc, append-nil, IfOk}
+use Rattle.std.proofs.Common.{◌≡◌, ◌⊎◌, ℕ, Bool, true, false, List, [], ◌∷◌, ◌++◌, refl, sym, ap, ◌∙◌, inl, inr, subst, append_assoc, append-nil, IfOk, OnOk}
 use Rattle.std.proofs.lemmas.List.{append_cancel_left}
 use Rattle.std.specs.declared.result.Result.{Result}
 use Rattle.std.specs.declared.result.Result.TheVariants.{Ok, Err}
@@ -72,3 +72,7 @@ pub AddsNew-if_ok : {T : Type 0} (P : Disk → Type 0) (at : Place) (bytes : Lis
     → P (after (after (disk_of old) (Create at true)) (Fill at bytes true)) → IfOk result (λ _. P (disk_of new))
 AddsNew-if_ok P at bytes old new (Ok answer) adds h = subst P (sym (disk_of-new at bytes old new answer adds)) h
 AddsNew-if_ok P at bytes old new (Err e) adds h = tt
+
+pub AddsOne-on_ok : {T : Type 0} (P : Disk → Type 0) (op : Bool → Op) (old new : Story) (result : Result T TreeError) → AddsOne op old new result → P (after (disk_of old) (op true)) → OnOk result (P (disk_of new))
+AddsOne-on_ok P op old new (Ok answer) adds h = subst P (sym (disk_of-ok op old new answer adds)) h
+AddsOne-on_ok P op old new (Err e) adds h = tt

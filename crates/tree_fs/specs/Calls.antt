@@ -1,20 +1,24 @@
-use Rattle.std.specs.Prelude.{◌≡◌, ◌≢◌, ◌⊎◌, ℕ, ◌≤◌, Bool, true, false, List, [], ◌∷◌, ◌++◌, OnOk, OnErr, IsErrOf}
+-- What a call asks of the disk, and what it adds to the story.
+use Rattle.std.specs.Prelude.{◌≡◌, ◌≢◌, ◌⊎◌, ℕ, Bool, true, false, List, [], ◌∷◌, ◌++◌, OnOk, OnErr}
 use Rattle.std.specs.declared.result.Result.{Result}
-use Rattle.fault_count.specs.Rose.{Rose}
+use Rattle.fault_count.specs.Causes.{HasCause as RoseFor}
+use Rattle.tree_fs.specs.declared.name.Kind.TheVariants.{Absent}
 use Rattle.tree_fs.specs.declared.op.Op.{Op}
 use Rattle.tree_fs.specs.declared.op.Op.TheVariants.{Create, Fill}
 use Rattle.tree_fs.specs.declared.place.Place.{Place}
 use Rattle.tree_fs.specs.declared.tree.TreeError.{TreeError}
 use Rattle.tree_fs.specs.declared.tree.TreeError.TheVariants.{Failed}
 use Rattle.tree_fs.specs.Spot.{Spot, parent, below}
-use Rattle.tree_fs.specs.Disk.{Disk, Value, none, IsFile, MayHold}
+use Rattle.tree_fs.specs.Disk.{Disk, none, IsFile, kind_of}
 use Rattle.tree_fs.specs.Story.{Story, with_ops}
 
 -- no step, or this one, perhaps not done
 abbrev pub AddsMaybe : (Bool → Op) → Story → Story → Type 0
-AddsMaybe op old new = (new ≡ old) ⊎ (new ≡ with_ops old (op true ∷ [])) ⊎ (new ≡ with_ops old (op false ∷ []))
+AddsMaybe op old new =
+    (new ≡ old) ⊎ (new ≡ with_ops old (op true ∷ [])) ⊎ (new ≡ with_ops old (op false ∷ []))
 
--- what a call of one step adds to the story: the step where it answers Ok; else perhaps nothing, and perhaps it was not done
+-- what a call of one step adds to the story: the step where it answers Ok;
+-- else perhaps nothing, and perhaps it was not done
 pub record AddsOne {T : Type 0} (op : Bool → Op) (old new : Story) (result : Result T TreeError) : Type 0 where
   pub ok : OnOk result (new ≡ with_ops old (op true ∷ []))
   pub err : OnErr result (AddsMaybe op old new)
@@ -27,15 +31,15 @@ pub record AddsFront (at : Place) (bytes : List ℕ) (old new : Story) : Type 0 
   pub done : Bool
   pub adds : new ≡ with_ops old (Create at true ∷ Fill at front done ∷ [])
 
--- what a call that makes a file with these bytes adds to the story: the file and its bytes where it answers Ok; else perhaps nothing, or the file alone, or with a first part of its bytes
+-- what a call that makes a file with these bytes adds to the story: the file and its bytes where it
+-- answers Ok; else perhaps nothing, or the file alone, or with a first part of its bytes
 pub record AddsNew {T : Type 0} (at : Place) (bytes : List ℕ) (old new : Story) (result : Result T TreeError) : Type 0 where
   pub ok : OnOk result (new ≡ with_ops old (Create at true ∷ Fill at bytes true ∷ []))
   pub err : OnErr result (AddsMaybe (Create at) old new ⊎ AddsFront at bytes old new)
 
--- the count never falls, and a failure has raised it
-pub record HasCause {T : Type 0} (before now : ℕ) (result : Result T TreeError) : Type 0 where
-  pub later : before ≤ now
-  pub failed : IsErrOf result Failed → Rose before now
+-- what a call tells of its failure
+abbrev pub HasCause : {T : Type 0} → ℕ → ℕ → Result T TreeError → Type 0
+HasCause before now result = RoseFor Failed before now result
 
 abbrev pub IsFolder : Disk → Spot → Type 0
 IsFolder d q = d.folders q ≡ true
@@ -70,5 +74,7 @@ CanMakeFolder d at = CanPut d at
 pub record CanRemoveFolder (d : Disk) (at : Spot) : Type 0 where
   pub folder : d.folders at ≡ true
   pub not_root : at.names ≢ []
-  pub no_folders : (name : List ℕ) → d.folders (below at name) ≡ false
-  pub empty : (name : List ℕ) (v : Value) → MayHold d (below at name) v → v ≡ none
+  -- nothing is there
+  pub empty : (name : List ℕ) → kind_of d (below at name) ≡ Absent
+  -- and nothing comes back after a stop
+  pub settled : (name : List ℕ) → d.before (below at name) ≡ []

@@ -1,3 +1,4 @@
+-- A disk, what a step makes of it, and what a stop leaves.
 use Rattle.std.specs.Prelude.{◌≡◌, ◌≢◌, ◌⊎◌, ℕ, ◌+◌, ◌<◌, Bool, true, false, ◌==◌, if◌then◌else◌, List, [], ◌∷◌}
 use Rattle.tree_fs.specs.declared.op.Op.{Op}
 use Rattle.tree_fs.specs.declared.op.Op.TheVariants.{Link, Unlink, Rename, Create, Fill, MakeFolder, RemoveFolder, SyncFolder, SyncFile}
@@ -33,6 +34,14 @@ IsIn v (x ∷ xs) = (v ≡ x) ⊎ IsIn v xs
 -- a value that a place may hold after a stop
 abbrev pub MayHold : Disk → Spot → Value → Type 0
 MayHold d q v = (v ≡ d.now q) ⊎ IsIn v (d.before q)
+
+-- a place whose list has one value, the present one
+abbrev pub IsSettled : Disk → Spot → Type 0
+IsSettled d q = (v : Value) → MayHold d q v → v ≡ d.now q
+
+-- a place whose list has one value, which is this
+abbrev pub HoldsOnly : Disk → Spot → Value → Type 0
+HoldsOnly d q v = (w : Value) → MayHold d q w → w ≡ v
 
 -- a stop leaves each place as it is
 abbrev pub NothingPending : Disk → Type 0

@@ -4,6 +4,7 @@ pub mod Places
 pub mod Disk
 pub mod Story
 pub mod Calls
+pub mod Frames
 pub mod Listing
 pub mod Texts
 pub mod Parts

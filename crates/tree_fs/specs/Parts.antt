@@ -1,3 +1,4 @@
+-- A file's bytes, and what a read of a part of them gives.
 use Rattle.std.specs.Prelude.{◌≡◌, ℕ, ◌≤◌, List, [], length, take, drop}
 use Rattle.tree_fs.specs.Spot.{Spot}
 use Rattle.tree_fs.specs.Disk.{Disk, Value, none, file, odd}

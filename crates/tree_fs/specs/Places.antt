@@ -1,3 +1,4 @@
+-- Where the places of the program lie.
 use Rattle.std.specs.Prelude.{List, ℕ, [], ◌∷◌, if◌then◌else◌}
 use Rattle.std.specs.declared.option.Option.{Option}
 use Rattle.std.specs.declared.option.Option.TheVariants.{None, Some}

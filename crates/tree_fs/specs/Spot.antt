@@ -1,4 +1,5 @@
-use Rattle.std.specs.Prelude.{ℕ, Bool, true, false, ◌&&◌, List, [], ◌∷◌, ◌++◌}
+-- Places of a disk.
+use Rattle.std.specs.Prelude.{◌≡◌, ℕ, Bool, true, false, ◌&&◌, List, [], ◌∷◌, ◌++◌}
 use Rattle.std.specs.declared.option.Option.{Option}
 use Rattle.std.specs.declared.option.Option.TheVariants.{None, Some}
 use Rattle.std.specs.Cmp.Lexicographic.{pointwise}
@@ -54,3 +55,10 @@ is_entry folder q = has_some q.names && spot_eq (parent q) folder
 -- the entry of a folder that has this name
 abbrev pub below : Spot → List ℕ → Spot
 below folder name = record { root = folder.root; names = folder.names ++ name ∷ [] }
+
+-- x lies somewhere below s
+pub record IsBelow (s x : Spot) : Type 0 where
+  pub root : x.root ≡ s.root
+  pub name : List ℕ
+  pub rest : List (List ℕ)
+  pub names : x.names ≡ s.names ++ name ∷ rest

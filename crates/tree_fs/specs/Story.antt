@@ -1,3 +1,4 @@
+-- Stories, and facts of every disk along them.
 use Rattle.std.specs.Prelude.{◌≡◌, List, [], ◌∷◌, ◌++◌}
 use Rattle.tree_fs.specs.declared.op.Op.{Op}
 use Rattle.tree_fs.specs.Disk.{Disk, after, after_all}

@@ -1,21 +1,13 @@
 // What a folder has: names and kinds.
-ghost use Rattle.std.specs.Prelude.{◌≡◌, IfOk, IfErr, IfSome, Some, Err, not, nat_eq, ◌&&◌, refl};
+ghost use Rattle.std.specs.Prelude.{◌≡◌, IfOk, IfErr, IfSome, Some, Err, not, nat_eq, ◌&&◌};
 ghost use Rattle.std.specs.List.{list_all};
-ghost use Rattle.std.specs.Ordering.{nat_cmp};
-ghost use Rattle.std.specs.Hash as fed;
-ghost use Rattle.std.specs.Cmp.Lexicographic.{pointwise, slice_cmp, nat_list_eq_equiv, nat_list_cmp_total, texts_ties, texts_po};
-ghost use Rattle.std.specs.Cmp.{partial_equiv_from_equiv};
-ghost use Rattle.std.specs.Cmp.Rules.{hashing};
-ghost use Rattle.std.proofs.Common.{rules};
-ghost use Rattle.rel_paths.specs.Names.{Explains};
+ghost use Rattle.fault_count.specs.Causes.{Explains};
 ghost use Rattle.tree_fs.specs.EntryName.{IsName, is_entry_name, name_fault};
 
-use rel_paths::PathError;
+use rel_paths::{PathError, Text};
 use std::alloc::Global;
-use std::cmp::Ordering;
 use std::convert::AsStr;
 use std::fmt;
-use std::hash::{Hash, Hasher};
 use std::marker::Model;
 
 /// What stands at a place.
@@ -30,22 +22,23 @@ pub enum Kind {
 }
 
 /// The name of an entry: UTF-8 text of 1 to 255 bytes without `/` and zero byte, not `.` or `..`.
-/// A contract sees it as its bytes.
-#[derive(Drop)]
+/// A contract sees it as its bytes, and its order is theirs.
+#[derive(PartialEq, Eq, PartialOrd, Ord, Hash, Drop)]
 pub struct Name {
-    text: String,
+    text: Text,
 }
 
 impl Model for Name {
     ghost use Rattle.std.specs.Prelude.{List, ℕ};
-    ghost use Rattle.std.specs.String.{string_bytes};
     ghost use Rattle.tree_fs.specs.EntryName.{IsName};
 
     ghost Value = { List ℕ };
 
-    ghost view = { λ a. string_bytes a.text };
+    ghost view = { λ a. a.text };
 
-    ghost invariant = { λ a. IsName (string_bytes a.text) };
+    ghost invariant = { λ a. IsName a.text };
+
+    ghost inverse = { λ bytes. record { text = bytes } };
 }
 
 impl Name {
@@ -54,7 +47,7 @@ impl Name {
     pub fn parse(alloc: Global, text: &str) -> Result<Name, PathError>
         ensures same { IfOk result (λ name. name ≡ text.now) }
         ensures good { IfOk result (λ name. IsName name) }
-        ensures err { IfErr result (λ e. Explains e (name_fault text.now)) }
+        ensures err { IfErr result (Explains PathError.Memory (name_fault text.now)) }
         ensures fault { IfSome (name_fault text.now) (λ e. result ≡ Err e) }
     {
         if text.is_empty() {
@@ -67,7 +60,7 @@ impl Name {
             return Err(PathError::BadName(0));
         }
         Ok(Name {
-            text: text.to_string(alloc)?,
+            text: Text::new(alloc, text)?,
         })
     }
 
@@ -102,55 +95,6 @@ impl AsStr for Name {
 
     fn as_str(&self) -> &str {
         self.text()
-    }
-}
-
-impl PartialEq for Name {
-    ghost eq = { pointwise nat_eq };
-
-    ghost laws = { partial_equiv_from_equiv nat_list_eq_equiv };
-
-    fn eq(&self, other: &Name) -> bool {
-        self.text == other.text
-    }
-}
-
-impl Eq for Name {
-    ghost laws = { nat_list_eq_equiv };
-}
-
-impl PartialOrd for Name {
-    ghost partial_cmp = { λ x y. Some (slice_cmp nat_cmp x y) };
-
-    ghost laws = { texts_po };
-
-    fn partial_cmp(&self, other: &Name) -> Option<Ordering> {
-        Some(self.cmp(other))
-    }
-}
-
-/// The order of the bytes.
-impl Ord for Name {
-    ghost cmp = { slice_cmp nat_cmp };
-
-    ghost total = { nat_list_cmp_total };
-
-    ghost matches_partial_cmp = { λ x y. refl };
-
-    ghost matches_eq = { texts_ties };
-
-    fn cmp(&self, other: &Name) -> Ordering {
-        self.text().cmp(other.text())
-    }
-}
-
-impl Hash for Name {
-    ghost hash_input = { fed.str };
-
-    ghost respects_eq = { Prim.search (hashing, rules) };
-
-    fn hash<H: Hasher>(&self, state: &mut H) {
-        self.text().hash(state);
     }
 }
 

@@ -2,13 +2,13 @@
 ghost use Rattle.std.specs.Prelude.{◌≡◌, IfOk, IfErr, IfSome, Some, None, Err, ◌∷◌, ◌++◌};
 ghost use Rattle.std.specs.Option.{option_map};
 ghost use Rattle.std.specs.String.{string_bytes};
-ghost use Rattle.rel_paths.specs.Names.{IsUserPath, IsModId, Explains};
-ghost use Rattle.rel_paths.specs.declared.error.PathError.TheVariants.{Memory};
+ghost use Rattle.fault_count.specs.Causes.{Explains};
+ghost use Rattle.rel_paths.specs.Names.{IsUserPath, IsModId};
 ghost use Rattle.tree_fs.specs.Spot.{spot_of};
 ghost use Rattle.tree_fs.specs.Places.{game_spot, mod_spot, staged_spot, folder_above};
 ghost use Rattle.tree_fs.specs.Texts.{root_word, root_named, place_text, place_fault, rel_fault, control_spot};
 
-use rel_paths::{Control, ModId, PathError, RelPath};
+use rel_paths::{Control, ModId, PathError, RelPath, only_memory};
 use std::alloc::{AllocError, Global};
 
 /// One of the three folders that the engine works in.
@@ -121,7 +121,7 @@ impl Place {
     #[tactic(auto, unfolding(crate::specs::Texts::place_fault))]
     pub fn parse(alloc: Global, text: &str) -> Result<Place, PathError>
         ensures same { IfOk result (λ place. place_text place ≡ text.now) }
-        ensures err { IfErr result (λ e. Explains e (place_fault text.now)) }
+        ensures err { IfErr result (Explains PathError.Memory (place_fault text.now)) }
         ensures fault { IfSome (place_fault text.now) (λ e. result ≡ Err e) }
     {
         match text.split_once('/') {
@@ -187,17 +187,10 @@ fn id_path(alloc: Global, id: &ModId) -> Result<RelPath, AllocError>
     }
 }
 
-// What is left where a fault can only be want of memory.
-fn only_memory(_fault: PathError) -> AllocError
-    requires { _fault ≡ Memory }
-{
-    AllocError
-}
-
 // The place of a held path below a root. Its faults count the path's names from 1.
 fn place_below(alloc: Global, root: Root, path: &str) -> Result<Place, PathError>
     ensures same { IfOk result (λ place. place_text place ≡ root_word root ++ 47 ∷ path.now) }
-    ensures err { IfErr result (λ e. Explains e (rel_fault (Some path.now))) }
+    ensures err { IfErr result (Explains PathError.Memory (rel_fault (Some path.now))) }
     ensures fault { IfSome (rel_fault (Some path.now)) (λ e. result ≡ Err e) }
 {
     match RelPath::parse_held(alloc, path) {

@@ -1,3 +1,1 @@
-pub mod Above
-pub mod Known
-pub mod Found
+pub mod Looks

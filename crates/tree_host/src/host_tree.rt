@@ -2,8 +2,8 @@
 ghost use Rattle.std.specs.Prelude.{◌≡◌, true, [], IfOk, IfErr};
 ghost use Rattle.std.specs.IoError.{error_kind};
 ghost use Rattle.tree_fs.specs.Disk.{none};
-ghost use Rattle.tree_fs.specs.Calls.{HasCause};
-ghost use Rattle.tree_host.specs.Found.{error_of};
+ghost use Rattle.fault_count.specs.Causes.{HasCause};
+ghost use Rattle.tree_host.specs.Looks.{error_of};
 
 use crate::real_disk::RealDisk;
 use fault_count::FaultCount;
@@ -16,13 +16,18 @@ use tree_fs::{Entry, Kind, Place, Tree, TreeError};
 /// The folders `stage`, `game` and `keep` below a base folder of the real disk.
 ///
 /// The first call of the tree makes those of the three that are missing. Each of them may be a
-/// symbolic link to a folder; a symbolic link anywhere else is `Other`, and what lies below it is
-/// absent. The tree tells no story. Its count of faults rises with each error of the system but
-/// want of memory, and but for those by which `kind` knows that nothing is there.
+/// symbolic link to a folder, but none may be another one, or lie in it: then each call is
+/// `Failed`. What lies above a folder that the system lets nobody look at is not compared. A
+/// symbolic link anywhere else is `Other`, and what lies below it is absent.
+///
+/// The tree remembers which folders are real, and what the last two looks told: others must not
+/// change the roots between two calls without a `forget`. It tells no story. Its count of faults
+/// rises with each error of the system but want of memory, and but for those by which `kind` knows
+/// that nothing is there.
 #[derive(Drop)]
 pub struct HostTree<R: Files + Clone + Drop> {
     disk: RealDisk<R>,
-    faults: FaultCount,
+    pub(crate) faults: FaultCount,
 }
 
 impl<R: Files + Clone + Drop> HostTree<R> {
@@ -42,10 +47,8 @@ impl<R: Files + Clone + Drop> HostTree<R> {
 fn counted<T: Drop>(faults: &mut FaultCount, outcome: io::Result<T>) -> Result<T, TreeError>
     ensures ok { IfOk outcome (λ value. result ≡ Ok value) }
     ensures err { IfErr outcome (λ e. result ≡ Err (error_of (error_kind e))) }
-    ensures cause { HasCause faults.old faults.new result }
+    ensures cause { HasCause TreeError.Failed faults.old faults.new result }
 {
-    // Its bound is what shows that the count never falls.
-    let _ = faults.get();
     match outcome {
         Ok(value) => Ok(value),
         Err(e) => match error_of(e.kind()) {
@@ -73,6 +76,10 @@ impl<R: Files + Clone + Drop> Tree for HostTree<R> {
     ghost story = { λ _. record { start = record { folders = λ _. true; now = λ _. none; before = λ _. []; bytes = λ _. []; firm = λ _. true; fresh = 0 }; ops = [] } };
 
     ghost faults = { λ tree. tree.faults };
+
+    fn forget(&mut self) {
+        self.disk.forget();
+    }
 
     fn kind(&mut self, at: &Place) -> Result<Kind, TreeError> {
         let outcome = self.disk.kind(at);
@@ -141,6 +148,3 @@ impl<R: Files + Clone + Drop> Tree for HostTree<R> {
 
     ghost valid = { λ _ told. absurd told };
 }
-
-#[cfg(test)]
-mod tests;

@@ -1,10 +1,9 @@
 // A file that is read part by part.
-ghost use Rattle.std.specs.Prelude.{◌≡◌, ◌≤◌, vec_len, IfOk};
+ghost use Rattle.std.specs.Prelude.{◌≡◌, ◌≤◌, length, vec_len, IfOk};
 
 use std::alloc::Global;
 use std::io;
-use std::io::{Read, Seek, SeekFrom};
-use tree_fs::Place;
+use std::io::{ErrorKind, Read, Seek, SeekFrom};
 
 // The most bytes of one read.
 const PIECE: u64 = 1_048_576;
@@ -12,7 +11,7 @@ const PIECE: u64 = 1_048_576;
 /// A file that was opened to be read.
 #[derive(Drop)]
 pub(crate) struct Reading<F: Read + Seek + Drop> {
-    at: Place,
+    path: String,
     file: F,
     len: u64,
     // Where the next read begins.
@@ -20,17 +19,17 @@ pub(crate) struct Reading<F: Read + Seek + Drop> {
 }
 
 impl<F: Read + Seek + Drop> Reading<F> {
-    pub(crate) fn new(at: Place, file: F, len: u64) -> Reading<F> {
+    pub(crate) fn new(path: String, file: F, len: u64) -> Reading<F> {
         Reading {
-            at,
+            path,
             file,
             len,
             position: 0,
         }
     }
 
-    pub(crate) fn is_of(&self, at: &Place) -> bool {
-        self.at == *at
+    pub(crate) fn is_of(&self, path: &str) -> bool {
+        self.path.as_str() == path
     }
 
     /// At most `most` bytes from a position, none where the file has none there.
@@ -43,10 +42,23 @@ impl<F: Read + Seek + Drop> Reading<F> {
         }
         let mut part = vec![in alloc; 0; left.min(PIECE).min(u64::from(most)) as usize]?;
         if !part.is_empty() {
-            let n = self.file.read(&mut part)?;
+            let n = read_again(&mut self.file, &mut part)?;
             part.truncate(n);
             self.position = self.position.saturating_add(n as u64);
         }
         Ok(part)
     }
+}
+
+// One read, made again where a signal interrupted it, at most `u64::MAX` times.
+fn read_again<F: Read>(file: &mut F, part: &mut [u8]) -> io::Result<usize>
+    ensures { IfOk result (λ n. n ≤ length part.new) }
+{
+    for _ in 0..u64::MAX {
+        match file.read(part) {
+            Err(e) if e.kind() == ErrorKind::Interrupted => {}
+            answer => return answer,
+        }
+    }
+    Err(io::Error::from(ErrorKind::TimedOut))
 }

@@ -4,17 +4,16 @@ ghost use Rattle.std.specs.String.{string_bytes};
 ghost use Rattle.tree_fs.specs.Texts.{place_text, root_word};
 
 mod changes;
-mod parents;
+mod folders;
 mod reads;
 mod roots;
 
-use crate::known::KnownFolders;
+use crate::folder_set::FolderSet;
+use crate::looks::Looks;
 use crate::reading::Reading;
-use roots::Roots;
 use std::alloc::{AllocError, Global};
-use std::fs::{File, Metadata, OpenFile};
+use std::io;
 use std::rt::Files;
-use std::{fs, io};
 use tree_fs::{Place, Root};
 
 /// The three roots on the real disk. An error of the system is the answer of the call that met it.
@@ -25,8 +24,13 @@ pub(crate) struct RealDisk<R: Files + Clone + Drop> {
     // The allocator stands beside the runtime as reading a folder wants them in one value.
     rt: (R, Global),
     base: String,
-    roots: Roots,
-    known: KnownFolders,
+    // The roots are there, and lie apart.
+    has_roots: bool,
+    // Folders below the roots, no links, as each folder above them up to the root.
+    real: FolderSet,
+    // Folders that were synced, and none was made or removed in them since.
+    settled: FolderSet,
+    looks: Looks,
     // The file that the last call read a part of.
     reading: Option<Reading<R::File>>,
 }
@@ -37,10 +41,20 @@ impl<R: Files + Clone + Drop> RealDisk<R> {
         Ok(RealDisk {
             rt: (rt, alloc),
             base: String::from_str(alloc, base)?,
-            roots: Roots::Unseen,
-            known: KnownFolders::new(alloc),
+            has_roots: false,
+            real: FolderSet::new(alloc),
+            settled: FolderSet::new(alloc),
+            looks: Looks::new(),
             reading: None,
         })
+    }
+
+    /// Lets go of all that others may change between two commands.
+    pub(crate) fn forget(&mut self) {
+        self.has_roots = false;
+        self.real.clear();
+        self.looks.clear();
+        self.reading = None;
     }
 
     // What every call but a read does first.
@@ -49,20 +63,21 @@ impl<R: Files + Clone + Drop> RealDisk<R> {
         self.need_roots()
     }
 
-    // A root may be a link to the real folder.
-    fn look(&self, at: &Place, path: &str) -> io::Result<Metadata> {
-        match &at.rel {
-            None => fs::metadata(&self.rt, path),
-            Some(_) => fs::symlink_metadata(&self.rt, path),
+    // What every call that changes something does first. The base is synced once: an earlier run
+    // may have made a root, and not come to sync it.
+    fn begin_change(&mut self) -> io::Result<()> {
+        self.begin()?;
+        self.looks.clear();
+        if !self.settled.has(self.base.as_str()) {
+            self.sync_path(self.base.as_str())?;
+            self.settled.add(self.base.as_str())?;
         }
-    }
-
-    fn sync_path(&self, path: &str) -> io::Result<()> {
-        File::open(&self.rt, path)?.sync_all()
+        Ok(())
     }
 
     fn path_of(&self, at: &Place) -> Result<String, AllocError>
-        ensures { IfOk result (λ path. string_bytes path ≡ string_bytes self.now.base ++ 47 ∷ place_text at.now) }
+        ensures { IfOk result (λ path. string_bytes path
+            ≡ string_bytes self.now.base ++ 47 ∷ place_text at.now) }
     {
         let root = self.root_path(at.root)?;
         match &at.rel {
@@ -72,7 +87,8 @@ impl<R: Files + Clone + Drop> RealDisk<R> {
     }
 
     fn root_path(&self, root: Root) -> Result<String, AllocError>
-        ensures { IfOk result (λ path. string_bytes path ≡ string_bytes self.now.base ++ 47 ∷ root_word root) }
+        ensures { IfOk result (λ path. string_bytes path
+            ≡ string_bytes self.now.base ++ 47 ∷ root_word root) }
     {
         joined(self.base.clone()?, root.word())
     }
@@ -84,4 +100,12 @@ fn joined(mut folder: String, rel: &str) -> Result<String, AllocError>
     folder.push('/')?;
     folder.push_str(rel)?;
     Ok(folder)
+}
+
+// The path above, up to the last slash.
+fn parent(path: &str) -> &str {
+    match path.rsplit_once('/') {
+        Some((above, _)) => above,
+        None => "",
+    }
 }

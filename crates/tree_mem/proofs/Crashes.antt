@@ -16,7 +16,9 @@ use Rattle.std.proofs.lemmas.Map.Entries.{place_from_lookup, btree_map_get_place
 use Rattle.tree_fs.specs.declared.place.Place.{Place}
 use Rattle.tree_fs.specs.Spot.{Spot, spot_of, spot_eq}
 use Rattle.tree_fs.specs.Disk.{Disk, Value, none, file, IsIn, MayHold, Image}
-use Rattle.tree_fs.proofs.Lists.{contains_here, contains_there, contains_cases, contains_none, contains_map, map_contains, all_item, all_weaken, in_append}
+use Rattle.list_laws.proofs.Alls.{all_item, all_weaken}
+use Rattle.list_laws.proofs.Containing.{contains_here, contains_there, contains_cases, contains_none, contains_map, map_contains}
+use Rattle.tree_fs.proofs.Lists.{in_append}
 use Rattle.tree_fs.specs.Texts.{place_text}
 use Rattle.tree_fs.proofs.Functions.{same_disk}
 use Rattle.tree_fs.proofs.Spots.{spot_eq-true, same_place}

@@ -3,8 +3,8 @@ use Rattle.std.proofs.Common.{true}
 use Rattle.tree_fs.specs.Disk.{Disk, IsValid}
 use Rattle.tree_fs.specs.Spot.{spot_of}
 use Rattle.tree_fs.proofs.Folders.{valid-folder_removed}
-use Rattle.tree_mem.specs.declared.step.OutsideStep.{OutsideStep}
-use Rattle.tree_mem.specs.declared.step.OutsideStep.TheVariants.{PutFile, EditFile, Remove, LinkFile, MakeFolder, RemoveFolder}
+use Rattle.tree_mem.specs.declared.outside_step.OutsideStep.{OutsideStep}
+use Rattle.tree_mem.specs.declared.outside_step.OutsideStep.TheVariants.{PutFile, EditFile, Remove, LinkFile, MakeFolder, RemoveFolder}
 use Rattle.tree_mem.specs.Changed.{with_file, with_link, with_folder, without_file, without_folder}
 use Rattle.tree_mem.specs.Outside.{CanChange, changed_by}
 use Rattle.tree_mem.proofs.Valid.{valid_file, valid_link, valid_folder, valid_removed, valid_edited, valid_settled}

@@ -1,3 +1,4 @@
+-- Where a step can be done.
 use Rattle.std.specs.Prelude.{⊤, true, false}
 use Rattle.tree_fs.specs.declared.op.Op.{Op}
 use Rattle.tree_fs.specs.declared.op.Op.TheVariants.{Link, Unlink, Rename, Create, Fill, MakeFolder, RemoveFolder, SyncFolder, SyncFile}

@@ -1,3 +1,4 @@
+-- Disks with something more, or less, settled.
 use Rattle.std.specs.Prelude.{ℕ, ◌+◌, true, false, not, List, []}
 use Rattle.tree_fs.specs.Spot.{Spot, has_some}
 use Rattle.tree_fs.specs.Disk.{Disk, Value, none, file, odd, set_at, set_number}

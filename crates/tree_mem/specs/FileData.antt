@@ -1,3 +1,4 @@
+-- Files as contracts see them.
 use Rattle.std.specs.Prelude.{ℕ, Bool, true, ◌||◌, if◌then◌else◌, List, []}
 
 -- a file as contracts see it

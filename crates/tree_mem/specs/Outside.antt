@@ -1,8 +1,9 @@
+-- Changes by others.
 use Rattle.tree_fs.specs.Calls.{CanLink, CanUnlink, CanPut, CanMakeFolder, CanRemoveFolder}
 use Rattle.tree_fs.specs.Disk.{Disk, IsFile}
 use Rattle.tree_fs.specs.Spot.{spot_of}
-use Rattle.tree_mem.specs.declared.step.OutsideStep.{OutsideStep}
-use Rattle.tree_mem.specs.declared.step.OutsideStep.TheVariants.{PutFile, EditFile, Remove, LinkFile, MakeFolder, RemoveFolder}
+use Rattle.tree_mem.specs.declared.outside_step.OutsideStep.{OutsideStep}
+use Rattle.tree_mem.specs.declared.outside_step.OutsideStep.TheVariants.{PutFile, EditFile, Remove, LinkFile, MakeFolder, RemoveFolder}
 use Rattle.tree_mem.specs.Changed.{with_file, with_link, with_folder, without_file, without_folder, edited, settled_at}
 
 -- where a change by others can be made

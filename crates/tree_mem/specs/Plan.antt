@@ -1,3 +1,4 @@
+-- Planned failures.
 use Rattle.std.specs.Prelude.{◌-◌, ◌+◌, ◌^◌, ℕ, Bool, min, ◌==◌, List}
 use Rattle.std.specs.List.{find}
 use Rattle.std.specs.Option.{option_map}

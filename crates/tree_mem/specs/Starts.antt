@@ -1,3 +1,4 @@
+-- The disk that a story began with.
 use Rattle.std.specs.declared.option.Option.{Option}
 use Rattle.std.specs.declared.option.Option.TheVariants.{None, Some}
 use Rattle.tree_fs.specs.Disk.{Disk}

@@ -1,17 +1,19 @@
 // The calls of the trait.
 ghost use Rattle.std.specs.Prelude.{◌≡◌, ◌<◌, length, IfOk};
 ghost use Rattle.std.proofs.Common.{subst};
+ghost use Rattle.fault_count.specs.Causes.{HasCause};
+ghost use Rattle.tree_fs.specs.declared.tree.TreeError.TheVariants.{Failed};
 ghost use Rattle.tree_fs.specs.declared.op.Op.TheVariants.{Link, Unlink, Rename, MakeFolder, RemoveFolder, SyncFolder, SyncFile};
-ghost use Rattle.tree_fs.specs.Calls.{AddsOne, AddsNew, HasCause, IsFolder, CanLink, CanUnlink, CanRename, CanPut, CanMakeFolder, CanRemoveFolder};
+ghost use Rattle.tree_fs.specs.Calls.{AddsOne, AddsNew, IsFolder, CanLink, CanUnlink, CanRename, CanPut, CanMakeFolder, CanRemoveFolder};
 ghost use Rattle.tree_fs.specs.Disk.{IsFile, IsValid, kind_of, is_one_file};
 ghost use Rattle.tree_fs.specs.Listing.{IsListing};
 ghost use Rattle.tree_fs.specs.Parts.{IsPart, bytes_at};
 ghost use Rattle.tree_fs.specs.Spot.{spot_of};
 ghost use Rattle.tree_fs.specs.Story.{disk_of};
 ghost use Rattle.tree_mem.specs.Failing.{FailsAsPlanned, StepFails, NewFails};
-ghost use Rattle.tree_mem.specs.MemStory.{mem_story};
+ghost use Rattle.tree_mem.specs.MemStory.{mem_story, faults_of};
 
-use crate::tree::MemTree;
+use crate::mem_tree::MemTree;
 use tree_fs::{Entry, Kind, Op, Place, Tree, TreeError};
 
 impl Tree for MemTree {
@@ -19,14 +21,14 @@ impl Tree for MemTree {
 
     ghost story = { mem_story };
 
-    ghost faults = { λ m. m.faults };
+    ghost faults = { faults_of };
 
     ghost valid = { λ m told. subst IsValid m.tells m.valid };
 
     fn kind(&mut self, at: &Place) -> Result<Kind, TreeError>
         ensures answer { IfOk result (λ k. k ≡ kind_of (disk_of (mem_story self.old)) (spot_of at.now)) }
         ensures same { mem_story self.new ≡ mem_story self.old }
-        ensures cause { HasCause self.old.faults self.new.faults result }
+        ensures cause { HasCause Failed (faults_of self.old) (faults_of self.new) result }
         ensures planned { FailsAsPlanned self.old self.new result }
     {
         let failure = self.next_failure();
@@ -36,9 +38,10 @@ impl Tree for MemTree {
 
     fn size(&mut self, at: &Place) -> Result<u64, TreeError>
         requires { IsFile (disk_of (mem_story self.old)) (spot_of at.now) }
-        ensures answer { IfOk result (λ n. n ≡ length (bytes_at (disk_of (mem_story self.old)) (spot_of at.now))) }
+        ensures answer { let bytes = bytes_at (disk_of (mem_story self.old)) (spot_of at.now) in
+            IfOk result (λ n. n ≡ length bytes) }
         ensures same { mem_story self.new ≡ mem_story self.old }
-        ensures cause { HasCause self.old.faults self.new.faults result }
+        ensures cause { HasCause Failed (faults_of self.old) (faults_of self.new) result }
         ensures planned { FailsAsPlanned self.old self.new result }
     {
         let failure = self.next_failure();
@@ -49,9 +52,10 @@ impl Tree for MemTree {
     fn read_part(&mut self, at: &Place, from: u64, most: u32) -> Result<Vec<u8>, TreeError>
         requires file { IsFile (disk_of (mem_story self.old)) (spot_of at.now) }
         requires some { 0 < most }
-        ensures answer { IfOk result (λ part. IsPart (bytes_at (disk_of (mem_story self.old)) (spot_of at.now)) from most part.items) }
+        ensures answer { let bytes = bytes_at (disk_of (mem_story self.old)) (spot_of at.now) in
+            IfOk result (λ part. IsPart bytes from most part.items) }
         ensures same { mem_story self.new ≡ mem_story self.old }
-        ensures cause { HasCause self.old.faults self.new.faults result }
+        ensures cause { HasCause Failed (faults_of self.old) (faults_of self.new) result }
         ensures planned { FailsAsPlanned self.old self.new result }
     {
         let failure = self.next_failure();
@@ -64,9 +68,10 @@ impl Tree for MemTree {
 
     fn list(&mut self, folder: &Place) -> Result<Vec<Entry>, TreeError>
         requires { IsFolder (disk_of (mem_story self.old)) (spot_of folder.now) }
-        ensures answer { IfOk result (λ entries. IsListing (disk_of (mem_story self.old)) (spot_of folder.now) entries.items) }
+        ensures answer { let d = disk_of (mem_story self.old) in
+            IfOk result (λ entries. IsListing d (spot_of folder.now) entries.items) }
         ensures same { mem_story self.new ≡ mem_story self.old }
-        ensures cause { HasCause self.old.faults self.new.faults result }
+        ensures cause { HasCause Failed (faults_of self.old) (faults_of self.new) result }
         ensures planned { FailsAsPlanned self.old self.new result }
     {
         let failure = self.next_failure();
@@ -77,9 +82,10 @@ impl Tree for MemTree {
     fn same(&mut self, a: &Place, b: &Place) -> Result<bool, TreeError>
         requires first { IsFile (disk_of (mem_story self.old)) (spot_of a.now) }
         requires second { IsFile (disk_of (mem_story self.old)) (spot_of b.now) }
-        ensures answer { IfOk result (λ one. one ≡ is_one_file ((disk_of (mem_story self.old)).now (spot_of a.now)) ((disk_of (mem_story self.old)).now (spot_of b.now))) }
+        ensures answer { let values = (disk_of (mem_story self.old)).now in
+            IfOk result (λ one. one ≡ is_one_file (values (spot_of a.now)) (values (spot_of b.now))) }
         ensures same { mem_story self.new ≡ mem_story self.old }
-        ensures cause { HasCause self.old.faults self.new.faults result }
+        ensures cause { HasCause Failed (faults_of self.old) (faults_of self.new) result }
         ensures planned { FailsAsPlanned self.old self.new result }
     {
         let failure = self.next_failure();
@@ -90,7 +96,7 @@ impl Tree for MemTree {
     fn link(&mut self, from: &Place, to: &Place) -> Result<(), TreeError>
         requires { CanLink (disk_of (mem_story self.old)) (spot_of from.now) (spot_of to.now) }
         ensures adds { AddsOne (Link from.now to.now) (mem_story self.old) (mem_story self.new) result }
-        ensures cause { HasCause self.old.faults self.new.faults result }
+        ensures cause { HasCause Failed (faults_of self.old) (faults_of self.new) result }
         ensures planned { StepFails (Link from.now to.now) self.old self.new result }
     {
         let failure = self.next_failure();
@@ -106,7 +112,7 @@ impl Tree for MemTree {
     fn unlink(&mut self, at: &Place) -> Result<(), TreeError>
         requires { CanUnlink (disk_of (mem_story self.old)) (spot_of at.now) }
         ensures adds { AddsOne (Unlink at.now) (mem_story self.old) (mem_story self.new) result }
-        ensures cause { HasCause self.old.faults self.new.faults result }
+        ensures cause { HasCause Failed (faults_of self.old) (faults_of self.new) result }
         ensures planned { StepFails (Unlink at.now) self.old self.new result }
     {
         let failure = self.next_failure();
@@ -121,7 +127,7 @@ impl Tree for MemTree {
     fn rename(&mut self, from: &Place, to: &Place) -> Result<(), TreeError>
         requires { CanRename (disk_of (mem_story self.old)) (spot_of from.now) (spot_of to.now) }
         ensures adds { AddsOne (Rename from.now to.now) (mem_story self.old) (mem_story self.new) result }
-        ensures cause { HasCause self.old.faults self.new.faults result }
+        ensures cause { HasCause Failed (faults_of self.old) (faults_of self.new) result }
         ensures planned { StepFails (Rename from.now to.now) self.old self.new result }
     {
         let failure = self.next_failure();
@@ -137,7 +143,7 @@ impl Tree for MemTree {
     fn put_new(&mut self, at: &Place, bytes: &[u8]) -> Result<(), TreeError>
         requires { CanPut (disk_of (mem_story self.old)) (spot_of at.now) }
         ensures adds { AddsNew at.now bytes.now (mem_story self.old) (mem_story self.new) result }
-        ensures cause { HasCause self.old.faults self.new.faults result }
+        ensures cause { HasCause Failed (faults_of self.old) (faults_of self.new) result }
         ensures planned { NewFails at.now bytes.now self.old self.new result }
     {
         let failure = self.next_failure();
@@ -151,7 +157,7 @@ impl Tree for MemTree {
     fn make_folder(&mut self, at: &Place) -> Result<(), TreeError>
         requires { CanMakeFolder (disk_of (mem_story self.old)) (spot_of at.now) }
         ensures adds { AddsOne (MakeFolder at.now) (mem_story self.old) (mem_story self.new) result }
-        ensures cause { HasCause self.old.faults self.new.faults result }
+        ensures cause { HasCause Failed (faults_of self.old) (faults_of self.new) result }
         ensures planned { StepFails (MakeFolder at.now) self.old self.new result }
     {
         let failure = self.next_failure();
@@ -166,7 +172,7 @@ impl Tree for MemTree {
     fn remove_folder(&mut self, at: &Place) -> Result<(), TreeError>
         requires { CanRemoveFolder (disk_of (mem_story self.old)) (spot_of at.now) }
         ensures adds { AddsOne (RemoveFolder at.now) (mem_story self.old) (mem_story self.new) result }
-        ensures cause { HasCause self.old.faults self.new.faults result }
+        ensures cause { HasCause Failed (faults_of self.old) (faults_of self.new) result }
         ensures planned { StepFails (RemoveFolder at.now) self.old self.new result }
     {
         let failure = self.next_failure();
@@ -181,7 +187,7 @@ impl Tree for MemTree {
     fn sync_folder(&mut self, at: &Place) -> Result<(), TreeError>
         requires { IsFolder (disk_of (mem_story self.old)) (spot_of at.now) }
         ensures adds { AddsOne (SyncFolder at.now) (mem_story self.old) (mem_story self.new) result }
-        ensures cause { HasCause self.old.faults self.new.faults result }
+        ensures cause { HasCause Failed (faults_of self.old) (faults_of self.new) result }
         ensures planned { StepFails (SyncFolder at.now) self.old self.new result }
     {
         let failure = self.next_failure();
@@ -196,7 +202,7 @@ impl Tree for MemTree {
     fn sync_file(&mut self, at: &Place) -> Result<(), TreeError>
         requires { IsFile (disk_of (mem_story self.old)) (spot_of at.now) }
         ensures adds { AddsOne (SyncFile at.now) (mem_story self.old) (mem_story self.new) result }
-        ensures cause { HasCause self.old.faults self.new.faults result }
+        ensures cause { HasCause Failed (faults_of self.old) (faults_of self.new) result }
         ensures planned { StepFails (SyncFile at.now) self.old self.new result }
     {
         let failure = self.next_failure();

@@ -7,13 +7,13 @@ ghost use Rattle.tree_mem.specs.Crash.{IsCrash, picked};
 ghost use Rattle.tree_mem.specs.Disks.{disk_in, item_of, is_folder, ItemSet, SameParts};
 ghost use Rattle.tree_mem.specs.Groups.{GroupGrown, IsGrouped, item_with, number_in};
 ghost use Rattle.tree_mem.specs.FileData.{file_left};
-ghost use Rattle.tree_mem.specs.MemStory.{mem_story};
+ghost use Rattle.tree_mem.specs.MemStory.{mem_story, faults_of, failures_of, calls_of};
 
 use crate::disk::{MemDisk, Past};
 use crate::entries::Item;
 use crate::file::MemFile;
 use crate::folders::copy_folders;
-use crate::tree::MemTree;
+use crate::mem_tree::MemTree;
 use fault_count::FaultCount;
 use std::alloc::{AllocError, Global};
 use std::collections::BTreeMap;
@@ -146,11 +146,12 @@ impl MemTree {
     /// A file that isn't firm keeps its bytes where the number of choices is even, and else has
     /// none.
     pub fn crash(&self, alloc: Global, choices: &[u32]) -> Result<MemTree, AllocError>
-        ensures crashed { IfOk result (λ left. IsCrash choices.now (disk_of (mem_story self.now)) (disk_of (mem_story left))) }
+        ensures crashed { let present = disk_of (mem_story self.now) in
+            IfOk result (λ left. IsCrash choices.now present (disk_of (mem_story left))) }
         ensures image { IfOk result (λ left. Image (disk_of (mem_story self.now)) (disk_of (mem_story left))) }
         ensures begins { IfOk result (λ left. (mem_story left).ops ≡ []) }
-        ensures faults { IfOk result (λ left. left.faults ≡ 0) }
-        ensures plan { IfOk result (λ left. (left.fails.items ≡ []) × (left.calls ≡ 0)) }
+        ensures faults { IfOk result (λ left. faults_of left ≡ 0) }
+        ensures plan { IfOk result (λ left. (failures_of left ≡ []) × (calls_of left ≡ 0)) }
     {
         Ok(MemTree {
             alloc,

@@ -162,7 +162,8 @@ impl MemDisk {
     ) -> Result<(), AllocError>
         requires source { IsFile (disk_in self.old) (spot_of from.now) }
         requires target { CanPut (disk_in self.old) (spot_of to.now) }
-        ensures ok { OnOk result (disk_in self.new ≡ with_link (disk_in self.old) (spot_of from.now) (spot_of to.now)) }
+        ensures ok { let d = disk_in self.old in
+            OnOk result (disk_in self.new ≡ with_link d (spot_of from.now) (spot_of to.now)) }
         ensures err { OnErr result (disk_in self.new ≡ disk_in self.old) }
     {
         let number = self.file(from);
@@ -180,7 +181,8 @@ impl MemDisk {
 
     /// The entries of a folder, in the order of their names.
     pub(crate) fn list(&self, alloc: Global, folder: &Place) -> Result<Vec<Entry>, AllocError>
-        ensures { IfOk result (λ listed. IsListing (disk_in self.now) (spot_of folder.now) listed.items) }
+        ensures { let d = disk_in self.now in
+            IfOk result (λ listed. IsListing d (spot_of folder.now) listed.items) }
     {
         match self.folders(folder.root).get(folder_text(folder)) {
             Some(entries) => entries.list(alloc),

@@ -6,7 +6,7 @@ ghost use Rattle.tree_fs.specs.EntryName.{IsName};
 ghost use Rattle.tree_mem.specs.Keys.{AreNames, Changes, SameTexts};
 ghost use Rattle.tree_mem.specs.Kinds.{item_kind, entry_of};
 
-use rel_paths::PathError;
+use rel_paths::only_memory;
 use std::alloc::{AllocError, Global};
 use std::collections::BTreeMap;
 use tree_fs::{Entry, Kind, Name};
@@ -101,7 +101,6 @@ fn entry_name(alloc: Global, text: &str) -> Result<Name, AllocError>
 {
     match Name::parse(alloc, text) {
         Ok(name) => Ok(name),
-        Err(PathError::Memory) => Err(AllocError),
-        Err(_) => unreachable!(),
+        Err(fault) => Err(only_memory(fault)),
     }
 }

@@ -68,7 +68,8 @@ impl MemFile {
         self.firm = true;
     }
 
-    /// The file after a stop, which keeps the bytes of one that isn't firm only where it is told to.
+    /// The file after a stop, which keeps the bytes of one that isn't firm only where it is told
+    /// to.
     pub(crate) fn left(&self, alloc: Global, keeps: bool) -> Result<MemFile, AllocError>
         ensures { IfOk result (λ file. file ≡ file_left keeps self.now) }
     {

@@ -1,6 +1,7 @@
-//! A disk in memory, which tells its story.
+//! A disk in memory, which tells its story. The tests stand in `tree_tests`.
 #![tactic(auto)]
 
+mod apply;
 mod calls;
 mod crash;
 mod disk;
@@ -10,14 +11,11 @@ mod file;
 mod folders;
 mod mem_tree;
 mod outside;
-mod step;
-mod steps;
+mod outside_step;
+mod telling;
 mod text;
-mod tree;
+mod worlds;
 
 pub use fail::FailAt;
-pub use step::OutsideStep;
-pub use tree::MemTree;
-
-#[cfg(test)]
-mod tests;
+pub use mem_tree::MemTree;
+pub use outside_step::OutsideStep;

@@ -1,17 +1,17 @@
 // Changes by others.
-ghost use Rattle.std.specs.Prelude.{◌≡◌, [], OnOk, OnErr};
+ghost use Rattle.std.specs.Prelude.{◌≡◌, OnOk, OnErr};
 ghost use Rattle.tree_fs.specs.Disk.{IsFile, IsValid};
 ghost use Rattle.tree_fs.specs.Spot.{spot_of};
 ghost use Rattle.tree_fs.specs.Story.{disk_of};
 ghost use Rattle.tree_mem.specs.Changed.{edited, settled_at, without_file};
 ghost use Rattle.tree_mem.specs.Disks.{disk_in};
-ghost use Rattle.tree_mem.specs.MemStory.{mem_story};
+ghost use Rattle.tree_mem.specs.MemStory.{mem_story, Begins, faults_of, KeepsPlan};
 ghost use Rattle.tree_mem.specs.Outside.{CanChange, changed_by};
 
 use crate::disk::MemDisk;
-use crate::step::OutsideStep;
+use crate::mem_tree::MemTree;
+use crate::outside_step::OutsideStep;
 use crate::text::is_one_place;
-use crate::tree::MemTree;
 use std::alloc::{AllocError, Global};
 use tree_fs::Place;
 
@@ -27,7 +27,8 @@ impl MemDisk {
     fn edit(&mut self, alloc: Global, at: &Place, bytes: &[u8]) -> Result<(), AllocError>
         requires valid { IsValid (disk_in self.old) }
         requires file { IsFile (disk_in self.old) (spot_of at.now) }
-        ensures ok { OnOk result (disk_in self.new ≡ edited (disk_in self.old) ((disk_in self.old).now (spot_of at.now)) bytes.now) }
+        ensures ok { let d = disk_in self.old in
+            OnOk result (disk_in self.new ≡ edited d (d.now (spot_of at.now)) bytes.now) }
         ensures err { OnErr result (disk_in self.new ≡ disk_in self.old) }
     {
         let bytes = Vec::from_clones(alloc, bytes)?;
@@ -83,10 +84,10 @@ impl MemTree {
     /// tree is as before.
     pub fn outside(&mut self, alloc: Global, step: &OutsideStep) -> Result<(), AllocError>
         requires { CanChange (disk_of (mem_story self.old)) step.now }
-        ensures begins { OnOk result (mem_story self.new ≡ record { start = changed_by (disk_of (mem_story self.old)) step.now; ops = [] }) }
+        ensures begins { OnOk result (Begins (changed_by (disk_of (mem_story self.old)) step.now) self.new) }
         ensures err { OnErr result (mem_story self.new ≡ mem_story self.old) }
-        ensures faults { self.new.faults ≡ self.old.faults }
-        ensures plan { (self.new.fails.items ≡ self.old.fails.items) × (self.new.calls ≡ self.old.calls) }
+        ensures faults { faults_of self.new ≡ faults_of self.old }
+        ensures plan { KeepsPlan self.old self.new }
     {
         self.disk.change(alloc, step)?;
         self.start = None;

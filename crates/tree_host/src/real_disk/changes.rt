@@ -1,6 +1,5 @@
 // The calls that change the disk, or settle what was changed.
-use super::RealDisk;
-use super::parents::parent;
+use super::{RealDisk, parent};
 use std::fs::{File, OpenFile};
 use std::io::Write;
 use std::rt::Files;
@@ -8,63 +7,74 @@ use std::{fs, io};
 use tree_fs::Place;
 
 impl<R: Files + Clone + Drop> RealDisk<R> {
+    // The path of a place that is about to change.
+    fn path_to_change(&mut self, at: &Place) -> io::Result<String> {
+        self.begin_change()?;
+        self.path_below_folders(at)
+    }
+
     pub(crate) fn link(&mut self, from: &Place, to: &Place) -> io::Result<()> {
-        self.begin()?;
-        self.need_below_folders(from)?;
-        self.need_below_folders(to)?;
-        let original = self.path_of(from)?;
-        let link = self.path_of(to)?;
+        let original = self.path_to_change(from)?;
+        let link = self.path_below_folders(to)?;
         fs::hard_link(&self.rt, original.as_str(), link.as_str())
     }
 
     pub(crate) fn unlink(&mut self, at: &Place) -> io::Result<()> {
-        self.begin()?;
-        self.need_below_folders(at)?;
-        let path = self.path_of(at)?;
+        let path = self.path_to_change(at)?;
         fs::remove_file(&self.rt, path.as_str())
     }
 
+    /// Of a file alone, so no folder comes or goes.
     pub(crate) fn rename(&mut self, from: &Place, to: &Place) -> io::Result<()> {
         self.begin()?;
-        self.need_below_folders(from)?;
-        self.need_below_folders(to)?;
-        self.forget(from)?;
-        self.forget(to)?;
-        let old = self.path_of(from)?;
-        let new = self.path_of(to)?;
+        self.find_file(from)?;
+        let old = self.path_to_change(from)?;
+        let new = self.path_below_folders(to)?;
         fs::rename(&self.rt, old.as_str(), new.as_str())
     }
 
-    /// Never overwrites, and follows no link at the end of the path either.
+    /// Never overwrites, and follows no link at the end of the path either. The bytes are synced
+    /// where they were written, as an error of closing the file is not seen.
     pub(crate) fn put_new(&mut self, at: &Place, bytes: &[u8]) -> io::Result<()> {
-        self.begin()?;
-        self.need_below_folders(at)?;
-        let path = self.path_of(at)?;
-        File::create_new(&self.rt, path.as_str())?.write_all(bytes)
+        let path = self.path_to_change(at)?;
+        self.put(path.as_str(), bytes)
+    }
+
+    fn put(&self, path: &str, bytes: &[u8]) -> io::Result<()> {
+        let mut file = File::create_new(&self.rt, path)?;
+        file.write_all(bytes)?;
+        file.sync_all()
     }
 
     pub(crate) fn make_folder(&mut self, at: &Place) -> io::Result<()> {
-        self.begin()?;
-        self.need_below_folders(at)?;
-        let path = self.path_of(at)?;
-        fs::create_dir(&self.rt, path.as_str())?;
-        self.sync_path(parent(path.as_str()))
+        let path = self.path_to_change(at)?;
+        self.make(path.as_str())
+    }
+
+    fn make(&mut self, path: &str) -> io::Result<()> {
+        self.settled.remove(parent(path));
+        fs::create_dir(&self.rt, path)?;
+        self.settle_from_base(parent(path))?;
+        self.real.add(path)?;
+        Ok(())
     }
 
     pub(crate) fn remove_folder(&mut self, at: &Place) -> io::Result<()> {
-        self.begin()?;
-        self.need_below_folders(at)?;
-        self.forget(at)?;
-        let path = self.path_of(at)?;
-        fs::remove_dir(&self.rt, path.as_str())?;
-        self.sync_path(parent(path.as_str()))
+        let path = self.path_to_change(at)?;
+        self.remove(path.as_str())
+    }
+
+    fn remove(&mut self, path: &str) -> io::Result<()> {
+        self.real.remove(path);
+        self.settled.remove(parent(path));
+        fs::remove_dir(&self.rt, path)?;
+        self.settle_from_base(parent(path))
     }
 
     pub(crate) fn sync_folder(&mut self, at: &Place) -> io::Result<()> {
         self.begin()?;
-        self.need_real_folder(at)?;
-        let path = self.path_of(at)?;
-        self.sync_path(path.as_str())
+        let path = self.folder_path(at)?;
+        self.settle_from_base(path.as_str())
     }
 
     pub(crate) fn sync_file(&mut self, at: &Place) -> io::Result<()> {

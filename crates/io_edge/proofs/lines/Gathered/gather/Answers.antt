@@ -2,7 +2,7 @@ use Rattle.std.proofs.Common.{◌∙◌, ◌++◌, [], refl, sym, ap, arith, ◌
 use Rattle.std.proofs.lemmas.Result.{err_from_is_err_and}
 use Rattle.io_edge.specs.Lines.{has_lf, through_line}
 use Rattle.io_edge.proofs.FirstLine.{after-none}
-use Rattle.io_edge.proofs.Gathering.{line_with_lf, rest_after_lf, length_with_lf, length_at_least, still_no_lf, ahead_of_more, line_at_end, through_at_end, after_at_end, length_at_end}
+use Rattle.io_edge.proofs.Gathering.{line_with_lf, rest_after_lf, length_with_lf, length_at_least, still_no_lf, ahead_of_more, only_the_line, line_at_end, through_at_end, after_at_end, length_at_end}
 use Rattle.io_edge.proofs.NextOf.{short_text}
 use Rattle.io_edge.proofs.Pulling.{nothing_yet, one_pull}
 use Rattle.io_edge.proofs.lines.Gathered.gather.Given.{Over}
@@ -46,6 +46,10 @@ returns-in_err-fill-clause-pulls g c = record {
   at_hand = c.fill.new.self.line ++ [];
   pulled = one_pull g.S.Source.gives _ _ c.loop-self.self.line c.loop-self.self.held _ _ c.fill.new.self.line [] c.loop-self.invariant.pulled c.loop-self.invariant.no_lf (sym c.in_ok-move_line.ensures.ended ∙ c.if-branch.false) (c.fill.ensures.line ∙ c.in_ok-move_line.ensures.line) c.in_err-fill.ensures.failed_pull.1;
 }
+
+pub returns-in_err-fill-clause-unfinished : goal.returns-in_err-fill-clause-unfinished
+returns-in_err-fill-clause-unfinished g c = λ told _.
+    only_the_line _ c.loop-self.self.line c.loop-self.self.held _ c.fill.new.self.line _ (c.loop-self.invariant.ahead told) c.loop-self.invariant.no_lf (sym c.in_ok-move_line.ensures.ended ∙ c.if-branch.false) (c.fill.ensures.line ∙ c.in_ok-move_line.ensures.line) (c.in_err-fill.ensures.kept told)
 
 -- what stands where the input has ended
 

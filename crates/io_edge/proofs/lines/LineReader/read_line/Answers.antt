@@ -1,10 +1,11 @@
-use Rattle.std.proofs.Common.{◌++◌, ap, ◌∙◌}
+use Rattle.std.proofs.Common.{◌++◌, refl, sym, ap, ◌∙◌}
 use Rattle.std.proofs.lemmas.Result.{err_from_is_err_and}
 use Rattle.io_edge.specs.Gathered.{LineAndHeld}
 use Rattle.io_edge.specs.Reader.{ReaderState}
 use Rattle.io_edge.specs.Lines.{after_line}
 use Rattle.io_edge.proofs.AllLines.{lines-of_answer}
-use Rattle.io_edge.proofs.NextOf.{here_is, some_here, answer_too_many, answer_not_text, answer_line}
+use Rattle.io_edge.proofs.NextOf.{failed_before, here_is, some_here, answer_too_many, answer_not_text, answer_line}
+use Rattle.io_edge.proofs.Gathering.{nothing_taken, taken_before}
 use Rattle.io_edge.proofs.Pulling.{then_for_a_line, first_pull, failed_pull}
 use Rattle.io_edge.proofs.lines.LineReader.read_line.Goals as goal
 
@@ -64,3 +65,16 @@ returns-in_err-text-clause-pulls g c =
 pub returns-clause-pulls : goal.returns-clause-pulls
 returns-clause-pulls g c =
     then_for_a_line g.S.Source.gives _ c.fill.new.self.held c.args.source.now c.fill.new.source c.gather.new.source (first_pull g.S.Source.gives _ c.clear_line.new.self.held c.fill.new.self.held c.args.source.now c.fill.new.source (ap (λ (a : LineAndHeld). a.held) c.clear_line.ensures.cleared ∙ ap (λ (s : ReaderState). s.held) c.self.view_is) c.in_ok-fill.ensures.pull (λ some. (let is = c.in_ok-fill.ensures.quiet some in (is.0, ap (λ (a : LineAndHeld). a.held) is.1)))) c.gather.ensures.pulls
+
+pub returns-in_err-fill-clause-unfinished : goal.returns-in_err-fill-clause-unfinished
+returns-in_err-fill-clause-unfinished g c = λ told _.
+    let held = ap (λ (a : LineAndHeld). a.held) c.clear_line.ensures.cleared ∙ ap (λ (s : ReaderState). s.held) c.self.view_is in
+    nothing_taken c.args.self.now.held _ _ (sym held ∙ c.in_err-fill.ensures.failed_pull.0) (c.in_err-fill.ensures.kept told)
+
+pub returns-in_err-gather-clause-unfinished : goal.returns-in_err-gather-clause-unfinished
+returns-in_err-gather-clause-unfinished g c =
+    let p = err_from_is_err_and c.from_residual-in_err-gather.result c.from_residual-in_err-gather.ensures.1 in
+    rw (p.1, p.2) (λ told failed.
+    let held = ap (λ (a : LineAndHeld). a.held) c.clear_line.ensures.cleared ∙ ap (λ (s : ReaderState). s.held) c.self.view_is in
+    let left = g.S.Source.left c.fill.new.source in
+    taken_before _ _ _ (sym (here_is _ _ c.fill.new.self.held (g.S.Source.left c.args.source.now) left held (c.in_ok-fill.ensures.ahead told))) (c.gather.ensures.unfinished told (failed_before c.gather.result _ _ _ c.in_err-gather.was refl failed)))

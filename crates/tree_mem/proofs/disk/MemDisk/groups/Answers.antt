@@ -1,6 +1,6 @@
 use Rattle.std.proofs.Common.{◌≡◌, ◌<◌, List, length, get_or, take, subst, sym, ◌∙◌, ◌++◌, ◌∷◌, []}
 use Rattle.tree_mem.specs.declared.disk.Past.{Past}
-use Rattle.tree_fs.proofs.Lists.{one_more}
+use Rattle.list_laws.proofs.Lists.{one_more}
 use Rattle.tree_mem.specs.Groups.{IsGrouped}
 use Rattle.tree_mem.proofs.Groups.{grouped_more, grouped_skipped}
 use Rattle.tree_mem.proofs.disk.MemDisk.groups.Goals.{then-not-is_folder+in_ok-add_past, else-not-is_folder}

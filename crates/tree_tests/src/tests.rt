@@ -1,0 +1,3 @@
+mod places;
+mod stops;
+mod worlds;
