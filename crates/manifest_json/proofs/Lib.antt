@@ -1,0 +1,15 @@
+pub mod Booleans
+pub mod Same
+pub mod Good
+pub mod Ends
+pub mod Lines
+pub mod Stacks
+pub mod Steps
+pub mod Lookups
+pub mod RowFacts
+pub mod RowScans
+pub mod Beside
+pub mod FolderScans
+pub mod Digits
+pub mod Rounds
+pub mod Values

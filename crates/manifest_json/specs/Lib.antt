@@ -1,0 +1,14 @@
+pub mod Digests
+pub mod Paths
+pub mod Records
+pub mod Apart
+pub mod Sound
+pub mod Stack
+pub mod Sources
+pub mod Versions
+pub mod Answers
+pub mod Rows
+pub mod Folders
+pub mod Manifests
+pub mod Whole
+pub mod Texts

@@ -1,11 +1,25 @@
-//! The manifest of a deployment: so far the digest of a file, and the spot of a fault.
+//! The manifest of a deployment: its rows and folders, as JSON text. Its tests stand in `tests`.
 #![tactic(auto)]
 
 mod digest;
+mod error;
+mod manifest;
+mod nesting;
+mod pieces;
+mod print;
+mod read;
+mod read_folders;
+mod read_rows;
+mod sources;
 mod spot;
-
-pub use digest::FileDigest;
-pub use spot::Spot;
-
 #[cfg(test)]
 mod tests;
+mod version;
+
+pub use digest::FileDigest;
+pub use error::ManifestError;
+pub use manifest::{Manifest, Paths, Row, Rows};
+pub use print::{manifest_text, manifest_to_json};
+pub use read::{manifest_from_json, read_manifest};
+pub use spot::Spot;
+pub use version::FormatVersion;
