@@ -10,10 +10,12 @@ use Rattle.tree_fs.specs.Listing.{IsListing, IsEntry}
 use Rattle.tree_fs.proofs.Spots.{parent-below}
 use Rattle.tree_fs.proofs.KindOf.{folder-kind}
 use Rattle.tree_fs.proofs.Disks.{now-in_folder}
-use Rattle.tree_fs.proofs.Lists.{all_every, all_map, all_weaken, contains_map, map_contains}
+use Rattle.list_laws.proofs.Alls.{all_every, all_map, all_weaken}
+use Rattle.list_laws.proofs.Containing.{contains_map, map_contains}
 use Rattle.stage_scan.specs.Walks.{inside, kind_inside, IsInside}
 use Rattle.stage_scan.specs.Stack.{IsStacked, IsUnderSome}
-use Rattle.stage_scan.proofs.Stacks.{all_reverse, content, content_stacked}
+use Rattle.stage_scan.proofs.Stacks.{content, content_stacked}
+use Rattle.list_laws.proofs.Alls.{all_reverse}
 
 -- what lies in a folder
 pub over_is_folder : (d : Disk) (q : Spot) (n : List ℕ) → IsValid d → kind_of d (below q n) ≢ kind.Absent → d.folders q ≡ true

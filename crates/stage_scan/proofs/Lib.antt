@@ -6,3 +6,6 @@ pub mod Contents
 pub mod Steps
 pub mod Visits
 pub mod Results
+pub mod Targets
+pub mod FileLists
+pub mod TestBases

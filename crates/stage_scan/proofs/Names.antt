@@ -5,8 +5,9 @@ use Rattle.std.specs.Str.{bytes_eq}
 use Rattle.std.proofs.lemmas.List.Elements.{All-weaker}
 use Rattle.std.proofs.lemmas.List.Sums.{AllPass-from_list_all}
 use Rattle.rel_paths.specs.declared.error.PathError.{PathError}
-use Rattle.rel_paths.specs.declared.error.PathError.TheVariants.{Empty, Long, Deep, BadName, Memory}
-use Rattle.rel_paths.specs.Names.{names_of, text_of, path_fault, user_limits, IsUserPath, Explains}
+use Rattle.rel_paths.specs.declared.error.PathError.TheVariants.{Memory}
+use Rattle.fault_count.specs.Causes.{Explains}
+use Rattle.rel_paths.specs.Names.{names_of, text_of, path_fault, user_limits, IsUserPath}
 use Rattle.rel_paths.proofs.Truths.{both, false_from_not}
 use Rattle.rel_paths.proofs.NamesOf.{HasNoSlash, names_of-one, names_of-last, text_of-names_of}
 use Rattle.tree_fs.specs.EntryName.{IsName}
@@ -41,12 +42,5 @@ names_of-text None name h = names_of-entry name h
 names_of-text (Some above) name h = names_of-below above name h
 
 -- a text with a fault is no user path
-pub no_user : (text : List ℕ) (names : List (List ℕ)) (fault : Option PathError) (e : PathError) → names_of text ≡ names → path_fault user_limits text ≡ fault → (e ≢ Memory) → Explains e fault → IsUserPath (text_of names) → ⊥
-no_user text names fault e is same ne why user = never e fault (sym same ∙ user_text text names is user) ne why
-  where
-    never : (e : PathError) (fault : Option PathError) → fault ≡ None → (e ≢ Memory) → Explains e fault → ⊥
-    never Memory fault gone ne why = ne refl
-    never Empty fault gone ne why = let h : None ≡ Some Empty = sym gone ∙ why in cc
-    never Long fault gone ne why = let h : None ≡ Some Long = sym gone ∙ why in cc
-    never Deep fault gone ne why = let h : None ≡ Some Deep = sym gone ∙ why in cc
-    never (BadName k) fault gone ne why = let h : None ≡ Some (BadName k) = sym gone ∙ why in cc
+pub no_user : (text : List ℕ) (names : List (List ℕ)) (fault : Option PathError) (e : PathError) → names_of text ≡ names → path_fault user_limits text ≡ fault → (e ≢ Memory) → Explains Memory fault e → IsUserPath (text_of names) → ⊥
+no_user text names fault e is same ne why user = let never : Some e ≡ None = sym (why ne) ∙ sym same ∙ user_text text names is user in cc

@@ -1,58 +1,39 @@
 -- What a walk comes to.
 use Rattle.std.proofs.Common.{◌≡◌, ◌⊎◌, ℕ, ◌<◌, ◌≤◌, ◌==◌, Bool, true, false, cond, nat_eq, List, [], ◌∷◌, ◌++◌, map, length, refl, sym, ap, ◌∙◌, inl, inr, subst, arith}
-use Rattle.std.specs.List.{AllByRecursion, Contains, IsDistinct, dedup, dedup_from}
-use Rattle.std.specs.List.Sorted.{IsStrictlySortedBy, IsSorted, IsPermutation}
-use Rattle.std.specs.Ordering.{nat_cmp}
+use Rattle.std.specs.List.{AllByRecursion, Contains}
 use Rattle.std.specs.Result.{IsErrAnd, IfErr}
 use Rattle.std.specs.declared.result.Result.{Result}
 use Rattle.std.specs.declared.result.Result.TheVariants.{Ok, Err}
-use Rattle.std.specs.Cmp.Lexicographic.{slice_cmp, pointwise, nat_list_cmp_total, nat_list_eq_equiv}
-use Rattle.std.proofs.lemmas.List.Kept.{IsStrictlySortedBy-dedup}
-use Rattle.std.proofs.lemmas.List.Sorted.{Contains-permutation, IsPermutation-sym}
-use Rattle.std.proofs.lemmas.Map.Keys.{IsDistinct-IsPermutation}
-use Rattle.std.proofs.lemmas.Map.Text.{is_eq-slice_cmp}
 use Rattle.rel_paths.specs.Names.{names_of}
 use Rattle.tree_fs.specs.declared.name.Kind.TheVariants as kind
 use Rattle.tree_fs.specs.Places.{mod_spot, staged_spot}
 use Rattle.tree_fs.specs.Disk.{Disk, IsValid, kind_of}
 use Rattle.tree_fs.proofs.Spots.{not_nameless}
-use Rattle.tree_fs.proofs.Lists.{all_item, contains_none}
+use Rattle.list_laws.proofs.Alls.{all_item}
+use Rattle.list_laws.proofs.Containing.{contains_none}
+use Rattle.list_laws.proofs.Lists.{last_of}
 use Rattle.stage_scan.specs.declared.error.ScanError.{ScanError}
 use Rattle.stage_scan.specs.declared.error.ScanError.TheVariants as error
-use Rattle.stage_scan.specs.Walks.{kind_inside, IsInside, IsEntryFault, IsFaultAfter, IsFirstFault, IsRefused, IsFreePath, AreFiles, CountsInside}
+use Rattle.stage_scan.specs.Files.{AreInPathOrder, HasSamePaths}
+use Rattle.stage_scan.specs.Walks.{kind_inside, IsInside, IsEntryFault, IsFaultAfter, IsFirstFault, IsRefused, AreFiles, CountsInside}
 use Rattle.stage_scan.specs.declared.pending.Pending.{Pending}
 use Rattle.stage_scan.specs.Stack.{names_at, IsFound, IsWalkedTo, IsWalkAt}
 use Rattle.stage_scan.proofs.Visits.{at_last, next_kind}
-use Rattle.stage_scan.proofs.Stacks.{all_from_contains}
+use Rattle.list_laws.proofs.Alls.{all_from_contains}
 use Rattle.stage_scan.proofs.Steps.{x_there, walk_before}
 
 -- Files in path order
-
--- nothing falls out of a list whose items differ
-kept_from : (e : List ℕ → List ℕ → Bool) → ((x y : List ℕ) → e x y ≡ e y x) → (k : List ℕ) (xs : List (List ℕ)) → IsDistinct e (k ∷ xs) → dedup_from e k xs ≡ k ∷ xs
-unfolding IsDistinct
-kept_from e flips k [] h = refl
-kept_from e flips k (x ∷ xs) h = ap (λ b. cond b (dedup_from e k xs) (k ∷ dedup_from e x xs)) (flips x k ∙ h.0.0) ∙ ap (λ l. k ∷ l) (kept_from e flips x xs h.1)
-
-kept : (e : List ℕ → List ℕ → Bool) → ((x y : List ℕ) → e x y ≡ e y x) → (xs : List (List ℕ)) → IsDistinct e xs → dedup e xs ≡ xs
-kept e flips [] h = refl
-kept e flips (x ∷ xs) h = kept_from e flips x xs h
-
-strictly : (xs : List (List ℕ)) → IsDistinct (pointwise nat_eq) xs → IsSorted (slice_cmp nat_cmp) xs → IsStrictlySortedBy (slice_cmp nat_cmp) xs
-strictly xs once sorted =
-    subst (IsStrictlySortedBy (slice_cmp nat_cmp)) (kept (pointwise nat_eq) nat_list_eq_equiv.symm xs once)
-    (IsStrictlySortedBy-dedup nat_list_cmp_total (λ x y. sym (is_eq-slice_cmp x y)) xs sorted)
 
 module _ (d : Disk) (id : List ℕ) (count : ℕ) (files : List (List ℕ)) (w : IsWalkedTo d id [] count files) where
   all_seen : (names : List (List ℕ)) → IsInside d id names → Contains w.seen names
   all_seen names is = elim (w.cover names is) [ inl c ↦ c | inr u ↦ absurd (contains_none u.over u.is_one) ]
 
-  pub are_files : (sorted : List (List ℕ)) → IsPermutation files sorted → IsSorted (slice_cmp nat_cmp) sorted → AreFiles d id sorted
-  are_files sorted moved in_order = record {
-    order = strictly sorted (IsDistinct-IsPermutation (pointwise nat_eq) nat_list_eq_equiv.symm files sorted moved w.once) in_order;
+  pub are_files : (sorted : List (List ℕ)) → AreInPathOrder sorted → HasSamePaths files sorted → AreFiles d id sorted
+  are_files sorted in_order same = record {
+    order = in_order;
     each = all_from_contains (λ path. kind_of d (staged_spot id path) ≡ kind.File) sorted
-        (λ path c. (all_item (IsFound d id w.seen) files path w.found (Contains-permutation sorted files path (IsPermutation-sym files sorted moved) c)).file);
-    whole = λ path is. Contains-permutation files sorted path moved (w.all_found path (record {
+        (λ path c. (all_item (IsFound d id w.seen) files path w.found ((same path).0 c)).file);
+    whole = λ path is. (same path).1 (w.all_found path (record {
       is_seen = all_seen (names_of path) (record { some = not_nameless path; there = λ gone. let h : kind.File ≡ kind.Absent = sym is ∙ gone in cc });
       file = is;
     }));
@@ -99,16 +80,6 @@ module _ (d : Disk) (id : List ℕ) (ns : List (List (List ℕ))) (x : List (Lis
 
 -- On the stack
 
--- what a list that isn't empty ends with
-last_of : {X : Type 0} (xs : List X) → (length xs ≡ 0 → ⊥) → (ys : List X) × (x : X) × (xs ≡ ys ++ x ∷ [])
-last_of [] some = absurd (some refl)
-last_of (x ∷ []) some = ([], x, refl)
-last_of (x ∷ y ∷ xs) some = let rest = last_of (y ∷ xs) (λ e. omega arith) in (x ∷ rest.0, rest.1, ap (λ l. x ∷ l) rest.2)
-
-pub nothing_left : {X : Type 0} (xs : List X) → length xs ≡ 0 → xs ≡ []
-nothing_left [] e = refl
-nothing_left (x ∷ xs) e = absurd (omega arith)
-
 module _ (d : Disk) (id : List ℕ) (count most : ℕ) (fs : List (List ℕ)) (valid : IsValid d) (folder : kind_of d (mod_spot id) ≡ kind.Folder) where
   pub too_many : (stack : List Pending) → IsWalkAt d id stack count fs → (length stack ≡ 0 → ⊥) → count ≡ most → IsFirstFault d id most error.TooMany
   too_many stack w some e =
@@ -130,11 +101,3 @@ not_zero b n is f z = let e : (n == 0) ≡ false = sym is ∙ f in grind arith
 
 pub same_count : (m n : ℕ) → m ≤ n → n ≤ m → m ≡ n
 same_count m n a b = omega arith
-
-pub err_tells : {A : Type 0} (P : ScanError → Type 0) (r : Result A ScanError) (e : ScanError) → IsErrAnd r (λ x. x ≡ e) → P e → IfErr r P
-err_tells P (Ok x) e h p = absurd h
-err_tells P (Err x) e h p = subst P (sym h) p
-
--- paths that changed places
-pub still_free : (files sorted : List (List ℕ)) → IsPermutation files sorted → AllByRecursion IsFreePath files → AllByRecursion IsFreePath sorted
-still_free files sorted moved free = all_from_contains IsFreePath sorted (λ path c. all_item IsFreePath files path free (Contains-permutation sorted files path (IsPermutation-sym files sorted moved) c))

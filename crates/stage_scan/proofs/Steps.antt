@@ -1,34 +1,26 @@
 -- One step of a walk.
-use Rattle.std.proofs.Common.{◌≡◌, ◌≢◌, ◌⊎◌, ℕ, ◌+◌, Bool, true, false, List, [], ◌∷◌, ◌++◌, nat_eq, refl, sym, ap, ◌∙◌, inl, inr, subst, append-nil}
-use Rattle.std.specs.List.{AllByRecursion, Contains, IsDistinct}
-use Rattle.std.specs.Str.{bytes_eq}
-use Rattle.std.specs.Cmp.Lexicographic.{pointwise}
+use Rattle.std.proofs.Common.{◌≡◌, ◌≢◌, ◌⊎◌, ℕ, ◌+◌, List, [], ◌∷◌, ◌++◌, sym, ap, ◌∙◌, inl, inr, subst, append-nil}
+use Rattle.std.specs.List.{AllByRecursion, Contains}
 use Rattle.std.proofs.lemmas.List.{length-append}
 use Rattle.std.proofs.lemmas.List.Elements.{Contains-append_left, Contains-append_right, Contains-append_cases}
-use Rattle.std.proofs.lemmas.Slice.Eq.{bytes_eq-Decides}
 use Rattle.rel_paths.specs.Names.{names_of}
 use Rattle.rel_paths.proofs.NamesOf.{same_text}
 use Rattle.tree_fs.specs.declared.name.Kind.TheVariants as kind
 use Rattle.tree_fs.specs.Disk.{Disk}
-use Rattle.tree_fs.proofs.Lists.{all_append, all_left, all_both, all_weaken, all_more, all_item, contains_here, contains_cases, contains_none}
+use Rattle.list_laws.proofs.Alls.{all_append, all_left, all_both, all_weaken, all_more, all_item}
+use Rattle.list_laws.proofs.Containing.{contains_here, last_cases}
 use Rattle.stage_scan.specs.Walks.{kind_inside, walk_cmp, IsInside, IsEarlier, IsSoundInside, IsWalkBefore}
 use Rattle.stage_scan.specs.Stack.{IsApart, IsUnderSome, IsFound, IsWalkedTo}
 use Rattle.stage_scan.proofs.Orders.{walk_total, apart_earlier, apart_left, apart_right, content_later, not_both, not_itself, under_not_earlier}
-use Rattle.stage_scan.proofs.Stacks.{all_last, sorted_more, distinct_more, stacked_append, stacked_last}
+use Rattle.stage_scan.proofs.Stacks.{stacked_append, stacked_last}
+use Rattle.list_laws.proofs.Alls.{all_last}
+use Rattle.list_laws.proofs.Sorted.{sorted_more}
 use Rattle.stage_scan.proofs.Contents.{IsNext, IsContent}
-
--- the one item at the end, or one before it
-last_cases : {X : Type 0} (xs : List X) (x y : X) → Contains (xs ++ x ∷ []) y → Contains xs y ⊎ (y ≡ x)
-last_cases xs x y c = elim (Contains-append_cases xs (x ∷ []) y c) [
-  | inl l ↦ inl l
-  | inr r ↦ elim (contains_cases x y [] r) [ inl e ↦ inr e | inr n ↦ absurd (contains_none y n) ]
-]
 
 -- what is found after a step, where the entry gives no file, and where it gives one
 pub record FoundNext (d : Disk) (id : List ℕ) (x : List (List ℕ)) (seen : List (List (List ℕ))) (fs gs : List (List ℕ)) : Type 0 where
   pub found : AllByRecursion (IsFound d id (seen ++ x ∷ [])) gs
   pub all_found : (path : List ℕ) → IsFound d id (seen ++ x ∷ []) path → Contains gs path
-  pub once : IsDistinct (pointwise nat_eq) gs
 
 module _ (d : Disk) (id : List ℕ) (ns : List (List (List ℕ))) (x : List (List ℕ)) (k : ℕ) (fs : List (List ℕ)) (w : IsWalkedTo d id (ns ++ x ∷ []) k fs) where
   pub x_there : IsInside d id x
@@ -50,7 +42,6 @@ module _ (d : Disk) (id : List ℕ) (ns : List (List (List ℕ))) (x : List (Lis
       | inl c ↦ w.all_found path (record { is_seen = c; file = is.file })
       | inr e ↦ absurd (ne (ap (kind_inside d id) (sym e) ∙ is.file))
     ];
-    once = w.once;
   }
 
   pub one_file : (path : List ℕ) → names_of path ≡ x → kind_inside d id x ≡ kind.File → FoundNext d id x w.seen fs (fs ++ path ∷ [])
@@ -61,14 +52,7 @@ module _ (d : Disk) (id : List ℕ) (ns : List (List (List ℕ))) (x : List (Lis
       | inl c ↦ Contains-append_left fs (path ∷ []) other (w.all_found other (record { is_seen = c; file = found.file }))
       | inr e ↦ subst (Contains (fs ++ path ∷ [])) (same_text path other (is ∙ sym e)) (Contains-append_right fs (path ∷ []) path (contains_here path []))
     ];
-    once = distinct_more (pointwise nat_eq) fs path w.once (all_weaken (IsFound d id w.seen) (λ f. pointwise nat_eq f path ≡ false) fs (λ f found. differs f found (bytes_eq f path) refl) w.found);
   }
-    where
-      differs : (f : List ℕ) → IsFound d id w.seen f → (b : Bool) → bytes_eq f path ≡ b → bytes_eq f path ≡ false
-      differs f found false e = e
-      differs f found true e =
-          let same : names_of f ≡ x = ap names_of ((bytes_eq-Decides f path).0 e) ∙ is in
-          absurd (not_itself x (subst (λ n. IsEarlier n x) same (all_item (λ s. IsEarlier s x) w.seen (names_of f) seen_earlier found.is_seen)))
 
   pub one_step : (cs : List (List (List ℕ))) (gs : List (List ℕ)) → IsSoundInside d id x → IsContent d id x cs → FoundNext d id x w.seen fs gs → IsWalkedTo d id (ns ++ cs) (k + 1) gs
   one_step cs gs sound content next = record {
@@ -89,7 +73,6 @@ module _ (d : Disk) (id : List ℕ) (ns : List (List (List ℕ))) (x : List (Lis
     cover = covers;
     found = next.found;
     all_found = next.all_found;
-    once = next.once;
   }
     where
       below_later : (c : List (List ℕ)) → IsNext x c → AllByRecursion (λ s. IsEarlier s c) (w.seen ++ x ∷ [])

@@ -11,12 +11,14 @@ use Rattle.tree_fs.specs.declared.name.Entry.{Entry}
 use Rattle.tree_fs.specs.Spot.{names_below}
 use Rattle.tree_fs.specs.Disk.{Disk, IsValid}
 use Rattle.tree_fs.specs.Listing.{IsListing, IsEntry}
-use Rattle.tree_fs.proofs.Lists.{all_append, all_left, all_map, all_weaken, all_every, contains_none}
+use Rattle.list_laws.proofs.Alls.{all_append, all_left, all_map, all_weaken, all_every}
+use Rattle.list_laws.proofs.Containing.{contains_none}
 use Rattle.std.specs.declared.option.Option.{Option}
 use Rattle.stage_scan.specs.declared.pending.Pending.{Pending}
 use Rattle.stage_scan.specs.Walks.{inside, kind_inside, IsInside, IsEarlier, IsSound, IsSoundInside}
 use Rattle.stage_scan.specs.Stack.{names_at, entry_below, Entered, IsUnderSome, IsPending, IsWalkedTo, IsWalkAt, HasUserFolder}
-use Rattle.stage_scan.proofs.Stacks.{all_last, all_reverse, content}
+use Rattle.stage_scan.proofs.Stacks.{content}
+use Rattle.list_laws.proofs.Alls.{all_last, all_reverse}
 use Rattle.stage_scan.proofs.Contents.{IsContent, no_content, folder_content}
 use Rattle.stage_scan.proofs.Steps.{no_file, one_file, one_step}
 
@@ -33,7 +35,7 @@ put_kinds d id above es listing = all_map (IsPending d id) (entry_below above) (
 
 -- the walk before its first entry
 pub walk_start : (d : Disk) (id : List ℕ) (es : List Entry) → IsValid d → IsListing d (inside id []) es → IsWalkAt d id (map (entry_below None) (reverse es)) 0 []
-unfolding IsStrictlySortedBy IsDistinct
+unfolding IsStrictlySortedBy
 walk_start d id es valid listing = record {
   kinds = put_kinds d id None es listing;
   walked = subst (λ ns. IsWalkedTo d id ns 0 []) (sym (put_names None es)) (record {
@@ -48,7 +50,6 @@ walk_start d id es valid listing = record {
     cover = covers;
     found = tt;
     all_found = λ path is. absurd (contains_none (names_of path) is.is_seen);
-    once = tt;
   });
 }
   where

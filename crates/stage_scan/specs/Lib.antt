@@ -1,3 +1,5 @@
 pub mod Causes
+pub mod Files
 pub mod Walks
+pub mod Placed
 pub mod Stack

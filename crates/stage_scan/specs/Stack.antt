@@ -1,8 +1,9 @@
-use Rattle.std.specs.Prelude.{◌≡◌, ◌⊎◌, ℕ, List, [], ◌∷◌, ◌++◌, length, map, reverse, nat_eq, IfSome}
-use Rattle.std.specs.List.{AllByRecursion, Contains, IsDistinct}
+-- How far a walk has come, and what it has still to look at.
+use Rattle.std.specs.Prelude.{◌≡◌, ◌⊎◌, ℕ, List, [], ◌∷◌, ◌++◌, length, map, reverse, IfSome}
+use Rattle.std.specs.List.{AllByRecursion, Contains}
 use Rattle.std.specs.List.Sorted.{IsStrictlySortedBy}
 use Rattle.std.specs.Ordering.{nat_cmp}
-use Rattle.std.specs.Cmp.Lexicographic.{slice_cmp, pointwise}
+use Rattle.std.specs.Cmp.Lexicographic.{slice_cmp}
 use Rattle.std.specs.declared.option.Option.{Option}
 use Rattle.std.specs.declared.option.Option.TheVariants.{None, Some}
 use Rattle.std.specs.declared.cmp.Ordering.TheVariants.{Less}
@@ -72,7 +73,6 @@ pub record IsWalkedTo (d : Disk) (id : List ℕ) (stack : List (List (List ℕ))
   pub cover : (names : List (List ℕ)) → IsInside d id names → Contains seen names ⊎ IsUnderSome stack names
   pub found : AllByRecursion (IsFound d id seen) files
   pub all_found : (path : List ℕ) → IsFound d id seen path → Contains files path
-  pub once : IsDistinct (pointwise nat_eq) files
 
 -- its kind is that on the disk
 abbrev pub IsPending : Disk → List ℕ → Pending → Type 0

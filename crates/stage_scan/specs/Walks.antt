@@ -1,3 +1,4 @@
+-- What lies below a mod: the walk over its entries, their faults, its files.
 use Rattle.std.specs.Prelude.{◌≡◌, ◌≢◌, ℕ, ◌<◌, false, true, List, [], ◌∷◌, length}
 use Rattle.std.specs.List.{AllByRecursion, Contains}
 use Rattle.std.specs.List.Sorted.{IsStrictlySortedBy}
@@ -15,6 +16,7 @@ use Rattle.tree_fs.specs.Disk.{Disk, kind_of}
 use Rattle.stage_scan.specs.declared.scan.Scan.{Scan}
 use Rattle.stage_scan.specs.declared.error.ScanError.{ScanError}
 use Rattle.stage_scan.specs.declared.error.ScanError.TheVariants as error
+use Rattle.stage_scan.specs.Files.{AreInPathOrder}
 
 -- where these names lie below a mod's folder
 abbrev pub inside : List ℕ → List (List ℕ) → Spot
@@ -56,10 +58,6 @@ pub record IsSound (k : Kind) (names : List (List ℕ)) : Type 0 where
 
 abbrev pub IsSoundInside : Disk → List ℕ → List (List ℕ) → Type 0
 IsSoundInside d id names = IsSound (kind_inside d id names) names
-
--- a user path that isn't reserved
-abbrev pub IsFreePath : List ℕ → Type 0
-IsFreePath path = IsUserPath path × (is_reserved (names_of path) ≡ false)
 
 -- the fault of an entry of a kind
 abbrev pub IsEntryFault : List ℕ → Kind → List (List ℕ) → ScanError → Type 0
@@ -103,7 +101,7 @@ IsRefused d id most (error.Reserved place) = IsFirstFault d id most (error.Reser
 
 -- the files below a mod, in path order
 pub record AreFiles (d : Disk) (id : List ℕ) (files : List (List ℕ)) : Type 0 where
-  pub order : IsStrictlySortedBy (slice_cmp nat_cmp) files
+  pub order : AreInPathOrder files
   pub each : AllByRecursion (λ path. kind_of d (staged_spot id path) ≡ kind.File) files
   pub whole : (path : List ℕ) → kind_of d (staged_spot id path) ≡ kind.File → Contains files path
 
@@ -118,5 +116,5 @@ pub record CountsInside (d : Disk) (id : List ℕ) (count : ℕ) : Type 0 where
 pub record IsScan (d : Disk) (id : List ℕ) (scan : Scan) : Type 0 where
   pub same : scan.mod_id ≡ id
   pub folder : kind_of d (mod_spot id) ≡ kind.Folder
-  pub files : AreFiles d id scan.files.items
+  pub files : AreFiles d id scan.files
   pub entries : CountsInside d id scan.entries

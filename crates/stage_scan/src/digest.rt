@@ -5,7 +5,8 @@ ghost use Rattle.tree_fs.specs.Spot.{spot_of};
 ghost use Rattle.tree_fs.specs.Disk.{IsFile};
 ghost use Rattle.tree_fs.specs.Parts.{bytes_at};
 ghost use Rattle.tree_fs.specs.Story.{disk_of};
-ghost use Rattle.tree_fs.specs.Calls.{HasCause};
+ghost use Rattle.fault_count.specs.Causes.{HasCause};
+ghost use Rattle.tree_fs.specs.declared.tree.TreeError.TheVariants.{Failed};
 
 use manifest_json::FileDigest;
 use sha2::{Digest, Sha256};
@@ -46,7 +47,7 @@ pub fn digest_of<T: Tree>(tree: &mut T, at: &Place) -> Result<FileDigest, TreeEr
     requires { T.tells → IsFile (disk_of (T.story tree.old)) (spot_of at.now) }
     ensures answer { T.tells → IfOk result (λ digest. digest.bytes ≡ sha256 (bytes_at (disk_of (T.story tree.old)) (spot_of at.now))) }
     ensures same { T.tells → T.story tree.new ≡ T.story tree.old }
-    ensures cause { HasCause (T.faults tree.old) (T.faults tree.new) result }
+    ensures cause { HasCause Failed (T.faults tree.old) (T.faults tree.new) result }
 {
     let size = tree.size(at)?;
     let mut hasher = Sha256::new();

@@ -2,12 +2,15 @@
 ghost use Rattle.std.specs.Prelude.{◌≡◌, ◌≤◌, IfOk, IfErr};
 ghost use Rattle.std.specs.List.{AllByRecursion};
 ghost use Rattle.tree_fs.specs.Story.{disk_of};
-ghost use Rattle.stage_scan.specs.Causes.{HasScanCause};
-ghost use Rattle.stage_scan.specs.Walks.{IsScan, IsRefused, IsFreePath};
+ghost use Rattle.fault_count.specs.Causes.{HasCause};
+ghost use Rattle.stage_scan.specs.declared.error.ScanError.TheVariants.{Failed};
+ghost use Rattle.rel_paths.specs.Names.{IsFreePath};
+ghost use Rattle.stage_scan.specs.Files.{AreInPathOrder};
+ghost use Rattle.stage_scan.specs.Walks.{IsScan, IsRefused};
 
-use crate::ScanError;
 use crate::walk::begin;
-use rel_paths::{ModId, RelPath};
+use crate::{Files, ScanError};
+use rel_paths::ModId;
 use std::alloc::Global;
 use tree_fs::Tree;
 
@@ -15,8 +18,8 @@ use tree_fs::Tree;
 #[derive(Drop)]
 pub struct Scan {
     pub mod_id: ModId,
-    /// The paths of its files, in path order.
-    pub files: Vec<RelPath>,
+    /// The paths of its files.
+    pub files: Files,
     /// How many files and folders it has.
     pub entries: u32,
 }
@@ -33,16 +36,16 @@ pub fn scan_mod<T: Tree>(
     ensures answer { T.tells → IfOk result (IsScan (disk_of (T.story tree.old)) id.now) }
     ensures refused { T.tells → IfErr result (IsRefused (disk_of (T.story tree.old)) id.now most) }
     ensures within { IfOk result (λ scan. scan.entries ≤ most) }
-    ensures free { IfOk result (λ scan. AllByRecursion IsFreePath scan.files.items) }
+    ensures order { IfOk result (λ scan. AreInPathOrder scan.files) }
+    ensures free { IfOk result (λ scan. AllByRecursion IsFreePath scan.files) }
     ensures id { IfOk result (λ scan. scan.mod_id ≡ id.now) }
     ensures same { T.tells → T.story tree.new ≡ T.story tree.old }
-    ensures cause { HasScanCause (T.faults tree.old) (T.faults tree.new) result }
+    ensures cause { HasCause Failed (T.faults tree.old) (T.faults tree.new) result }
 {
     let mod_id = id.copy()?;
     let mut walk = begin(alloc, tree, id)?;
     let entries = walk.walk(alloc, tree, id, most)?;
-    let mut files = walk.files;
-    files.sort()?;
+    let files = Files::sorted(walk.files)?;
     Ok(Scan {
         mod_id,
         files,

@@ -1,16 +1,16 @@
 // A walk over what lies below a mod.
 ghost use Rattle.std.specs.Prelude.{◌≡◌, ◌≤◌, ◌⊎◌, ◌+◌, ◌++◌, ◌∷◌, ℕ, [], IfOk, IfErr, IfSome, OnOk};
 ghost use Rattle.std.specs.List.{AllByRecursion};
-ghost use Rattle.rel_paths.specs.Names.{IsUserPath};
+ghost use Rattle.rel_paths.specs.Names.{IsUserPath, IsFreePath};
 ghost use Rattle.tree_fs.specs.declared.name.Kind.TheVariants.{Folder};
 ghost use Rattle.tree_fs.specs.Spot.{names_below};
 ghost use Rattle.tree_fs.specs.Places.{mod_spot};
 ghost use Rattle.tree_fs.specs.Disk.{kind_of};
 ghost use Rattle.tree_fs.specs.Story.{disk_of};
-ghost use Rattle.tree_fs.specs.Calls.{HasCause};
+ghost use Rattle.fault_count.specs.Causes.{HasCause};
+ghost use Rattle.tree_fs.specs.declared.tree.TreeError.TheVariants as tree_error;
 ghost use Rattle.tree_fs.specs.Listing.{IsListing};
-ghost use Rattle.stage_scan.specs.Causes.{HasScanCause};
-ghost use Rattle.stage_scan.specs.Walks.{inside, kind_inside, IsEntryFault, IsRefused, IsFreePath};
+ghost use Rattle.stage_scan.specs.Walks.{inside, kind_inside, IsEntryFault, IsRefused};
 ghost use Rattle.stage_scan.specs.Stack.{names_at, HasUserFolder, Entered, IsWalkAt};
 ghost use Rattle.stage_scan.specs.declared.error.ScanError.TheVariants.{Failed};
 
@@ -41,7 +41,7 @@ fn enter<T: Tree>(
     requires told { T.tells → kind_inside (disk_of (T.story tree.old)) id.now (names_below folder.now) ≡ Folder }
     ensures put { OnOk result (Entered folder.now stack.old.items stack.new.items (λ entries. T.tells → IsListing (disk_of (T.story tree.old)) (inside id.now (names_below folder.now)) entries)) }
     ensures same { T.tells → T.story tree.new ≡ T.story tree.old }
-    ensures cause { HasCause (T.faults tree.old) (T.faults tree.new) result }
+    ensures cause { HasCause tree_error.Failed (T.faults tree.old) (T.faults tree.new) result }
 {
     let place = folder_place(alloc, id, folder)?;
     let entries = tree.list(&place)?;
@@ -56,7 +56,7 @@ pub(crate) fn begin<T: Tree>(alloc: Global, tree: &mut T, id: &ModId) -> Result<
     ensures users { IfOk result (λ walk. AllByRecursion HasUserFolder walk.stack.items) }
     ensures files { IfOk result (λ walk. walk.files.items ≡ []) }
     ensures same { T.tells → T.story tree.new ≡ T.story tree.old }
-    ensures cause { HasScanCause (T.faults tree.old) (T.faults tree.new) result }
+    ensures cause { HasCause Failed (T.faults tree.old) (T.faults tree.new) result }
 {
     let root = Place::mod_folder(alloc, id)?;
     if tree.kind(&root)? != Kind::Folder {
@@ -88,7 +88,7 @@ impl Walk {
         ensures users { OnOk result (AllByRecursion HasUserFolder self.new.stack.items) }
         ensures files { OnOk result (AllByRecursion IsFreePath self.new.files.items) }
         ensures same { T.tells → T.story tree.new ≡ T.story tree.old }
-        ensures cause { HasScanCause (T.faults tree.old) (T.faults tree.new) result }
+        ensures cause { HasCause Failed (T.faults tree.old) (T.faults tree.new) result }
     {
         let kind = next.entry.kind;
         let path = next.sound_path(alloc, id)?;
@@ -120,7 +120,7 @@ impl Walk {
         ensures within { IfOk result (λ count. count ≤ most) }
         ensures files { OnOk result (AllByRecursion IsFreePath self.new.files.items) }
         ensures same { T.tells → T.story tree.new ≡ T.story tree.old }
-        ensures cause { HasScanCause (T.faults tree.old) (T.faults tree.new) result }
+        ensures cause { HasCause Failed (T.faults tree.old) (T.faults tree.new) result }
     {
         for count in 0..most {
             let Some(next) = self.stack.pop() else {

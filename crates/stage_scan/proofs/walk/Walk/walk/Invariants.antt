@@ -1,7 +1,7 @@
 use Rattle.std.proofs.Common.{◌≡◌, ◌≤◌}
 use Rattle.std.specs.List.{AllByRecursion}
 use Rattle.tree_fs.specs.Story.{disk_of}
-use Rattle.stage_scan.specs.Walks.{IsFreePath}
+use Rattle.rel_paths.specs.Names.{IsFreePath}
 use Rattle.stage_scan.specs.Stack.{HasUserFolder, IsWalkAt}
 use Rattle.stage_scan.proofs.walk.Walk.walk.Given as goal
 
