@@ -1,0 +1,12 @@
+pub mod Members
+pub mod Orders
+pub mod Waits
+pub mod Walks
+pub mod Repeats
+pub mod Cycles
+pub mod OneCycle
+pub mod Loops
+pub mod Checks
+pub mod Steps
+pub mod Ready
+pub mod Froms
