@@ -1,0 +1,14 @@
+pub mod Sorting
+pub mod Ends
+pub mod Orders
+pub mod Taken
+pub mod Counts
+pub mod StableSorts
+pub mod Room
+pub mod Grouping
+pub mod Offered
+pub mod Gathering
+pub mod Below
+pub mod Overriding
+pub mod Reading
+pub mod Deciding
