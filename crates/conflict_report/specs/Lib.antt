@@ -1,0 +1,5 @@
+pub mod Leading
+pub mod Relations
+pub mod Reports
+pub mod Entries
+pub mod Shares
