@@ -1,0 +1,5 @@
+mod Verdict
+mod Look
+mod Positionals
+mod Uses
+mod Actions

@@ -1,0 +1,7 @@
+pub mod Words
+pub mod Positionals
+pub mod Options
+pub mod Values
+pub mod Settling
+pub mod Form
+pub mod Apps
