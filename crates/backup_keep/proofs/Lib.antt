@@ -1,0 +1,4 @@
+pub mod Kept
+pub mod Numbers
+pub mod Numbered
+pub mod Asided

@@ -1,0 +1,4 @@
+pub mod Places
+pub mod Origins
+pub mod Asides
+pub mod Refusals

@@ -1,0 +1,7 @@
+pub mod PlaceReads
+pub mod Plain
+pub mod Compact
+pub mod Chains
+pub mod Intents
+pub mod Bare
+pub mod Accepts

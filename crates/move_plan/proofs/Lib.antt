@@ -1,0 +1,11 @@
+pub mod Entries
+pub mod Ordered
+pub mod Searching
+pub mod Earlier
+pub mod Spots
+pub mod Above
+pub mod Turned
+pub mod Marked
+pub mod Deciding
+pub mod Failing
+pub mod Checked

@@ -1,0 +1,11 @@
+use Rattle.std.proofs.Common.{rules, lit<}
+use Rattle.std.proofs.lemmas.Iterator.Search.{all_from_yields_List}
+use Rattle.std.proofs.lemmas.Iterator.Splits.{YieldsList-from_str_split}
+use Rattle.rel_paths.specs.Names.{is_name_within}
+use Rattle.move_plan.proofs.places.has_user_names.Goals as goal
+
+pub returns : goal.returns
+returns c =
+    all_from_yields_List (is_name_within 240) _ _ _ c.all.ensures.ran
+    (YieldsList-from_str_split 47 c.args.text.now (lit< tt) c.split.ensures.text c.split.ensures.has_more c.split.ensures.pattern)
+    (λ x b q h. search rules)

@@ -1,0 +1,14 @@
+//! Tests of the crates `move_plan`, `backup_keep` and `intent_json`. The crate has tests alone, so
+//! that those need no disk in memory.
+#![tactic(auto)]
+
+#[cfg(test)]
+mod intent_tests;
+#[cfg(test)]
+mod keep_tests;
+#[cfg(test)]
+mod manifests;
+#[cfg(test)]
+mod plan_tests;
+#[cfg(test)]
+mod plans;
