@@ -1,0 +1,4 @@
+pub mod Blocking
+pub mod Told
+pub mod Found
+pub mod Ascending

@@ -1,0 +1,4 @@
+pub mod Classes
+pub mod Changes
+pub mod Refusals
+pub mod Tests
