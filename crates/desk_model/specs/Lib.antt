@@ -1,0 +1,15 @@
+pub mod Places
+pub mod Records
+pub mod Desk
+pub mod Folders
+pub mod Deployed
+pub mod Settled
+pub mod Purged
+pub mod Edited
+pub mod Outcome
+pub mod Standing
+pub mod Mid
+pub mod Stops
+pub mod Others
+pub mod History
+pub mod Laws
