@@ -60,20 +60,20 @@ module _ (d : Disk) (scans : List Scan) (are : AreScans d scans) where
     back_above s there = all_item (λ i. IsBelow scan.mod_id i) (ids_of back) s.mod_id (sorted-back (ids_of front) scan.mod_id (ids_of back) order) (map_contains (λ (x : Scan). x.mod_id) back s there)
 
   -- what a mod provides is a file of its scan
-  file_in : (s : Scan) (id path : List ℕ) → s.mod_id ≡ id → IsScanOfMod d s → kind_of d (staged_spot id path) ≡ File → Contains s.files.items path
+  file_in : (s : Scan) (id path : List ℕ) → s.mod_id ≡ id → IsScanOfMod d s → kind_of d (staged_spot id path) ≡ File → Contains s.files path
   file_in s id path same holds is = holds.files.whole path (subst (λ i. kind_of d (staged_spot i path) ≡ File) (sym same) is)
 
   pub no_deep : AllByRecursion IsFlatScan scans → HasNoDeep d
   no_deep flat id path deep =
       let of = scan_of id deep.provides.is_mod in
       let in_scan = file_in of.0 id path of.2 of.3 deep.provides.file in
-      flat_or_deep path (all_item IsFlatPath of.0.files.items path (all_item IsFlatScan scans of.0 flat of.1) in_scan) deep.deep
+      flat_or_deep path (all_item IsFlatPath of.0.files path (all_item IsFlatScan scans of.0 flat of.1) in_scan) deep.deep
 
   pub first_deep_of : (spot : Spot) → IsFirstDeepOf scans spot → IsFirstDeep d spot
   first_deep_of spot first =
       let scan = first.found in
       let own = first.first in
-      let files = scan.files.items in
+      let files = scan.files in
       let holds = this_is first.front scan first.back first.here in
       let file = (all_right (λ p. kind_of d (staged_spot scan.mod_id p) ≡ File) own.front (own.path ∷ own.back) (subst (AllByRecursion (λ p. kind_of d (staged_spot scan.mod_id p) ≡ File)) own.here holds.files.each)).0 in
       let sorted = subst (IsStrictlySortedBy (slice_cmp nat_cmp)) own.here holds.files.order in
@@ -86,11 +86,11 @@ module _ (d : Disk) (scans : List Scan) (are : AreScans d scans) where
             let of = scan_of other_id deep.provides.is_mod in
             let in_scan = file_in of.0 other_id other of.2 of.3 deep.provides.file in
             elim (at_seam first.front scan first.back of.0 (subst (λ l. Contains l of.0) first.here of.1)) [
-              | inl front ↦ absurd (flat_or_deep other (all_item IsFlatPath of.0.files.items other (all_item IsFlatScan first.front of.0 first.before front) in_scan) deep.deep)
+              | inl front ↦ absurd (flat_or_deep other (all_item IsFlatPath of.0.files other (all_item IsFlatScan first.front of.0 first.before front) in_scan) deep.deep)
               | inr rest ↦ elim rest [
                 | inl same ↦
                     let id_is : scan.mod_id ≡ other_id = ap (λ (s : Scan). s.mod_id) (sym same) ∙ of.2 in
-                    let here : Contains (own.front ++ own.path ∷ own.back) other = subst (λ l. Contains l other) own.here (subst (λ (s : Scan). Contains s.files.items other) same in_scan) in
+                    let here : Contains (own.front ++ own.path ∷ own.back) other = subst (λ l. Contains l other) own.here (subst (λ (s : Scan). Contains s.files other) same in_scan) in
                     inr (
                       id_is,
                       elim (at_seam own.front own.path own.back other here) [
@@ -113,7 +113,7 @@ module _ (d : Disk) (scans : List Scan) (are : AreScans d scans) where
       record {
         provides = record {
           is_mod = this_mod last.front winner last.back last.here;
-          file = all_item (λ p. kind_of d (staged_spot winner.mod_id p) ≡ File) winner.files.items path holds.files.each (contains_from_any path winner.files.items last.has);
+          file = all_item (λ p. kind_of d (staged_spot winner.mod_id p) ≡ File) winner.files path holds.files.each (contains_from_any path winner.files last.has);
         };
         last = λ other provides.
             let of = scan_of other provides.is_mod in
@@ -122,7 +122,7 @@ module _ (d : Disk) (scans : List Scan) (are : AreScans d scans) where
               | inr rest ↦ elim rest [
                 | inl same ↦ inl (sym of.2 ∙ ap (λ (s : Scan). s.mod_id) same)
                 | inr back ↦
-                    let has = any_from_contains path of.0.files.items (file_in of.0 other path of.2 of.3 provides.file) in
+                    let has = any_from_contains path of.0.files (file_in of.0 other path of.2 of.3 provides.file) in
                     let no_way : true ≡ false = sym has ∙ all_item (λ s. has_file path s ≡ false) last.back of.0 last.none_behind back in
                     absurd (cc)
               ]
@@ -136,7 +136,7 @@ module _ (d : Disk) (scans : List Scan) (are : AreScans d scans) where
     whole = λ path provided. elim (of_scans.whole path) [
       | inl never ↦
           let of = scan_of provided.0 provided.1.is_mod in
-          let has = any_from_contains path of.0.files.items (file_in of.0 provided.0 path of.2 of.3 provided.1.file) in
+          let has = any_from_contains path of.0.files (file_in of.0 provided.0 path of.2 of.3 provided.1.file) in
           let no_way : true ≡ false = sym has ∙ all_item (λ s. has_file path s ≡ false) scans of.0 never of.1 in
           absurd (cc)
       | inr there ↦ there
@@ -150,7 +150,7 @@ are_flat scans wins flat of_scans =
     (λ w is.
     let winner = is.last.winner in
     let its = (all_right IsFlatScan is.last.front (winner ∷ is.last.back) (subst (AllByRecursion IsFlatScan) is.last.here flat)).0 in
-    all_item IsFlatPath winner.files.items w.path its (contains_from_any w.path winner.files.items is.last.has))
+    all_item IsFlatPath winner.files w.path its (contains_from_any w.path winner.files is.last.has))
     of_scans.each
 
 -- The game folder

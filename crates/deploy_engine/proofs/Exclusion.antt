@@ -12,7 +12,7 @@ use Rattle.tree_fs.proofs.Lists.{all_item, contains_cases, contains_none, contai
 use Rattle.stage_scan.specs.declared.error.ScanError.TheVariants as error
 use Rattle.stage_scan.specs.Walks.{walk_cmp, IsInside, IsSoundInside, IsFirstFault, CountsInside}
 use Rattle.stage_scan.proofs.Orders.{not_both}
-use Rattle.stage_scan.proofs.Stacks.{sorted_more}
+use Rattle.list_laws.proofs.Sorted.{sorted_more}
 use Rattle.deploy_engine.specs.declared.refusal.Refusal.{Refusal}
 use Rattle.deploy_engine.specs.declared.refusal.Refusal.TheVariants.{Scan, Early}
 use Rattle.deploy_engine.specs.declared.refusal.ScanRefusal.{ScanRefusal}

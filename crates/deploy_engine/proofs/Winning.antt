@@ -97,7 +97,7 @@ module _ (mods : List Scan) (path : List ℕ) (count : ℕ) (last : IsLastWith m
   pub last_user : AllByRecursion HasUserPaths mods → IsUserPath path
   last_user all =
       let winner = (all_right HasUserPaths last.front (last.winner ∷ last.back) (subst (AllByRecursion HasUserPaths) last.here all)).0 in
-      all_item IsUserPath last.winner.files.items path winner (contains_from_any path last.winner.files.items last.has)
+      all_item IsUserPath last.winner.files path winner (contains_from_any path last.winner.files last.has)
 
 -- one path more, of those that are left
 pub more_paths : (wins : List Win) (w : Win) (key : List ℕ) (index : ℕ) (rest : List (List ℕ × ℕ)) (all : List (List ℕ)) → w.path ≡ key

@@ -21,7 +21,7 @@ IsScanOfMod d scan = IsScan d scan.mod_id scan
 
 -- the files of a scan have user paths
 abbrev pub HasUserPaths : Scan → Type 0
-HasUserPaths scan = AllByRecursion IsUserPath scan.files.items
+HasUserPaths scan = AllByRecursion IsUserPath scan.files
 
 -- these mods are scanned, and so much of the limit is left
 pub record AreScansOf (d : Disk) (ids : List (List ℕ)) (most left : ℕ) (scans : List Scan) : Type 0 where

@@ -18,7 +18,7 @@ use Rattle.deploy_engine.specs.Refusals.{first_name}
 
 -- whether a mod has a file for a path
 abbrev pub has_file : List ℕ → Scan → Bool
-has_file path scan = list_any (bytes_eq path) scan.files.items
+has_file path scan = list_any (bytes_eq path) scan.files
 
 -- the last of the mods that has the path, with as many before it
 pub record IsLastWith (scans : List Scan) (path : List ℕ) (count : ℕ) : Type 0 where
@@ -52,14 +52,14 @@ abbrev pub IsFlatPath : List ℕ → Type 0
 IsFlatPath path = names_of path ≡ path ∷ []
 
 abbrev pub IsFlatScan : Scan → Type 0
-IsFlatScan scan = AllByRecursion IsFlatPath scan.files.items
+IsFlatScan scan = AllByRecursion IsFlatPath scan.files
 
 -- where the first name of the first path of two or more names lies, of the files of a mod
 pub record IsFirstDeepIn (scan : Scan) (spot : Spot) : Type 0 where
   pub front : List (List ℕ)
   pub path : List ℕ
   pub back : List (List ℕ)
-  pub here : scan.files.items ≡ front ++ path ∷ back
+  pub here : scan.files ≡ front ++ path ∷ back
   pub before : AllByRecursion IsFlatPath front
   pub deep : 1 < length (names_of path)
   pub is : spot ≡ below (mod_spot scan.mod_id) (first_name path)

@@ -31,7 +31,7 @@ fn first_deep_in(alloc: Global, scan: &Scan) -> Result<Option<Place>, AllocError
     requires { HasUserPaths scan.now }
     ensures { IfOk result (λ found. MatchOption found (IsFlatScan scan.now) (λ place. IsFirstDeepIn scan.now (spot_of place))) }
 {
-    for path in &scan.files {
+    for path in scan.files.as_slice() {
         if let Some(name) = folder_name(alloc, path)? {
             return Ok(Some(Place::staged(alloc, &scan.mod_id, &name)?));
         }

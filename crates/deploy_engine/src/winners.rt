@@ -45,7 +45,7 @@ fn last_with(alloc: Global, scans: &[Scan]) -> Result<BTreeMap<RelPath, usize>, 
 {
     let mut winners = BTreeMap::new(alloc);
     for (index, scan) in scans.iter().enumerate() {
-        put_files(&mut winners, &scan.files, index)?;
+        put_files(&mut winners, scan.files.as_slice(), index)?;
     }
     Ok(winners)
 }

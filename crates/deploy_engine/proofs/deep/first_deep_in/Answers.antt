@@ -9,11 +9,11 @@ pub returns-in-Some : goal.returns-in-Some
 returns-in-Some c =
     let found = rw c.in-Some.is at c.in_ok-name.ensures in
     record {
-      front = take c.loop-path.path-index c.args.scan.now.files.items;
+      front = take c.loop-path.path-index c.args.scan.now.files;
       path = c.path-item.result;
-      back = drop (suc c.loop-path.path-index) c.args.scan.now.files.items;
-      here = subst (λ (l : List (List ℕ)). l ≡ take c.loop-path.path-index l ++ c.path-item.result ∷ drop (suc c.loop-path.path-index) l) c.deref-path-items.ensures.value (around _ _ _ c.loop-path-test.true c.path-item.is);
-      before = subst (λ (l : List (List ℕ)). AllByRecursion IsFlatPath (take c.loop-path.path-index l)) c.deref-path-items.ensures.value c.loop-path.invariant;
+      back = drop (suc c.loop-path.path-index) c.args.scan.now.files;
+      here = subst (λ (l : List (List ℕ)). l ≡ take c.loop-path.path-index l ++ c.path-item.result ∷ drop (suc c.loop-path.path-index) l) c.as_slice-path-items.ensures.same (around _ _ _ c.loop-path-test.true c.path-item.is);
+      before = subst (λ (l : List (List ℕ)). AllByRecursion IsFlatPath (take c.loop-path.path-index l)) c.as_slice-path-items.ensures.same c.loop-path.invariant;
       deep = found.0;
       is = c.in_ok-staged.ensures ∙ (λ i. record { root = Stage; names = c.args.scan.now.mod_id ∷ found.1 i });
     }

@@ -16,6 +16,6 @@ loop-index-preserved c = λ path.
     let old = get (slice_cmp nat_cmp) c.loop-index.winners path in
     let count : length so_far ≡ c.loop-index.index = simp length-take (omega arith) in
     let found : get (slice_cmp nat_cmp) c.put_files.new.winners path ≡ cond (has_file path m) (Some (length so_far)) old =
-    c.in_ok-put_files.ensures path ∙ ap (λ l. cond (list_any (bytes_eq path) l) (Some c.loop-index.index) old) c.deref.ensures.value ∙ ap (λ n. cond (has_file path m) (Some n) old) (sym count) in
+    c.in_ok-put_files.ensures path ∙ ap (λ l. cond (list_any (bytes_eq path) l) (Some c.loop-index.index) old) c.as_slice.ensures.same ∙ ap (λ n. cond (has_file path m) (Some n) old) (sym count) in
     rw (one_more _ _ _ c.loop-index-test.true c.index-scans-index.is)
     (subst (IsLastIndex (so_far ++ m ∷ []) path) (sym found) (last_more so_far m path old (c.loop-index.invariant path)))
