@@ -81,6 +81,27 @@ def roots_may_be_links_to_folders(world):
     world.one_file("disk/my_mods/a/x.txt", "disk/my_game/x.txt")
 
 
+def two_roots_that_are_one_folder_are_a_fault(world):
+    world.file("stage/a/x.txt", "A").symlink("game", "stage").folder("keep")
+    before = world.everything()
+    world.run("deploy").prints().ends(5)
+    world.unchanged(before)
+
+
+def a_root_that_lies_in_another_is_a_fault(world):
+    world.file("stage/a/x.txt", "A").folder("stage/a/d").symlink("keep", "stage/a/d").folder("game")
+    before = world.everything()
+    world.run("deploy").prints().ends(5)
+    world.unchanged(before)
+
+
+def a_root_above_the_others_is_a_fault(world):
+    world.file("stage/a/x.txt", "A").symlink("game", ".").folder("keep")
+    before = world.everything()
+    world.run("deploy").prints().ends(5)
+    world.unchanged(before)
+
+
 def missing_roots_are_made(world):
     world.file("stage/a/x.txt", "A")
     world.run("deploy").prints("deployed 1, set 1, saved 0").ends(0)

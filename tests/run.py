@@ -15,6 +15,7 @@ HERE = os.path.dirname(os.path.abspath(__file__))
 sys.path.insert(0, HERE)
 sys.dont_write_bytecode = True
 
+import documents
 import flat_deploy
 import real_disk
 import scans
@@ -40,7 +41,7 @@ def main(words):
     wanted = set(words[1:])
     cases = [
         case
-        for module in (flat_deploy, real_disk, scans)
+        for module in (documents, flat_deploy, real_disk, scans)
         for case in cases_of(module)
         if not wanted or case.__name__ in wanted
     ]
