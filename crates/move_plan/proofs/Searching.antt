@@ -54,7 +54,7 @@ module _ {X : Type 0} (p : X → Bool) where
   any_nowhere [] f = refl
   any_nowhere (x ∷ xs) f = λ i. f 0 x (omega arith) i || any_nowhere xs (λ k d h. f (suc k) d (omega arith)) i
 
-  any_at : (xs : List X) (i : ℕ) (d : X) → i < length xs → p (get_or xs i d) ≡ true → list_any p xs ≡ true
+  pub any_at : (xs : List X) (i : ℕ) (d : X) → i < length xs → p (get_or xs i d) ≡ true → list_any p xs ≡ true
   any_at [] i d h e = let no : ⊥ = omega arith in absurd no
   any_at (x ∷ xs) zero d h e = λ j. e j || list_any p xs
   any_at (x ∷ xs) (suc i) d h e = ap (λ b. p x || b) (any_at xs i d (omega arith) e) ∙ or_true (p x)

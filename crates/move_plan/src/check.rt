@@ -12,8 +12,9 @@ use crate::{Plan, PlanFault};
 
 /// Whether the plan passes the nine rules of a plan that is sound by its data alone, or the first
 /// rule that it fails, with the first entry that fails it. It allocates nothing. Its time is that
-/// of a few look-ups for each entry, in lists that are found to be sorted first, and of one more
-/// pass over the sets for every 4,096 clears.
+/// of a few look-ups for each entry, in lists that are found to be sorted first. Of every 4,096
+/// clears, where one is neither a save's destination nor the source of the set of the place that it
+/// is named after, they take one more pass over the sets.
 pub fn check_plan(plan: &Plan) -> Result<(), PlanFault>
     ensures passes { IsOk result ↔ PassesRules plan.now }
     ensures fault { IfErr result (λ f. IsFirstFault plan.now f.rule f.index) }

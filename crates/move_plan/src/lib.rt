@@ -10,6 +10,7 @@ mod idle;
 mod lines;
 mod lists;
 mod marks;
+mod named;
 mod order;
 mod places;
 mod plan;

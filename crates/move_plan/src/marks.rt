@@ -5,6 +5,7 @@ ghost use Rattle.move_plan.specs.Tests.{has_key, is_from, is_source};
 ghost use Rattle.move_plan.specs.Rising.{AreRising, earlier};
 
 use crate::SetRow;
+use crate::named::are_own;
 use crate::search::{is_saved_to, is_set, place_index, save_index};
 use tree_fs::Place;
 
@@ -122,13 +123,18 @@ fn is_used(mark: bool, saves: &[(Place, Place)], place: &Place) -> bool
 }
 
 // The index of the first clear that is neither a set's source nor a save's destination, of no more
-// clears than there are marks.
+// clears than there are marks. Marks are made where some clear isn't the source of the set that it is
+// named after.
 fn first_unused_of(clears: &[Place], saves: &[(Place, Place)], sets: &[SetRow]) -> Option<usize>
     requires most { length clears.now ≤ 4096 }
     requires clears { AreRising clears.now }
     requires saves { AreRising (map (λ s. s.1) saves.now) }
+    requires sets { AreRising (map (λ row. row.to) sets.now) }
     ensures { result ≡ position (λ p. not (is_source sets.now p || has_key (λ s. s.1) saves.now p)) clears.now }
 {
+    if are_own(clears, saves, sets) {
+        return None;
+    }
     let marks = source_marks(clears, sets);
     first_unmarked(clears, saves, &marks)
 }
@@ -163,6 +169,7 @@ pub(crate) fn first_unused(
 ) -> Option<usize>
     requires clears { AreRising clears.now }
     requires saves { AreRising (map (λ s. s.1) saves.now) }
+    requires sets { AreRising (map (λ row. row.to) sets.now) }
     ensures { result ≡ position (λ p. not (is_source sets.now p || has_key (λ s. s.1) saves.now p)) clears.now }
 {
     let mut start = 0;
