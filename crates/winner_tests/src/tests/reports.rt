@@ -93,6 +93,13 @@ fn report_of(
     report_in(rt, graph, order.as_slice(), scans, overrides)
 }
 
+/// Stops where there is no report.
+pub(super) fn need_report(rt: &(impl AllocGlobal + Abort), graph: &Graph, scans: &[Scan])
+    requires { graph.now.count ≡ length scans.now }
+{
+    let _report = report_of(rt, graph, scans, &[]);
+}
+
 // What is reported of these mods, between which there are these edges.
 fn check_report(
     rt: &(impl AllocGlobal + Abort),

@@ -57,7 +57,7 @@ pub(super) fn overrides_of(
 pub(super) fn graph_of(rt: &(impl AllocGlobal + Abort), count: usize, edges: &[(u32, u32)]) -> Graph
     ensures { result.count ≡ count }
 {
-    assert!(rt; count < 1000);
+    assert!(rt; count <= 2_000);
     let edges = edges.to_vec(rt.alloc()).expect(rt, "memory");
     Graph::new(count as u32, edges).expect(rt, "edges that ascend")
 }
