@@ -5,3 +5,4 @@ pub mod Values
 pub mod Settling
 pub mod Form
 pub mod Apps
+pub mod Paths

@@ -1,5 +1,6 @@
 // What all positional words of a command say.
 ghost use Rattle.std.specs.Prelude.{◌≡◌, None, Some, IfOk, IfErr};
+ghost use Rattle.rel_paths.specs.Names.{IsUserPath};
 ghost use Rattle.command_words.specs.Values.{mod_id, user_path, number, only, path_and_id, id_and_version, id_kind_id};
 ghost use Rattle.command_words.specs.Words.{texts};
 
@@ -42,6 +43,7 @@ pub(crate) fn only_number(given: &[&str]) -> Option<u64>
 
 pub(crate) fn path_and_id(alloc: Global, given: &[&str]) -> Result<(RelPath, ModId), WordError>
     ensures ok { IfOk result (λ r. path_and_id (texts given.now) ≡ Some r) }
+    ensures user { IfOk result (λ r. IsUserPath r.0) }
     ensures usage { IfErr result (λ e. e ≡ WordError.Usage
         → path_and_id (texts given.now) ≡ None) }
 {

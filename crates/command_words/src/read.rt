@@ -1,6 +1,7 @@
 // The command that words say.
 ghost use Rattle.std.specs.Prelude.{◌≡◌, None, Some, IfOk, IfErr};
 ghost use Rattle.command_words.specs.Form.{form, plain_form, nothing};
+ghost use Rattle.command_words.specs.Paths.{SetsUserPath};
 ghost use Rattle.command_words.specs.Words.{texts};
 
 use crate::command::Command;
@@ -17,6 +18,7 @@ fn nothing(command: Command, given: &[&str]) -> Result<Command, WordError>
     ensures ok { IfOk result (λ c. nothing command (texts given.now) ≡ Some c) }
     ensures usage { IfErr result (λ e. e ≡ WordError.Usage
         → nothing command (texts given.now) ≡ None) }
+    ensures same { IfOk result (λ c. c ≡ command) }
 {
     match *given {
         [] => Ok(command),
@@ -29,6 +31,7 @@ fn plain(alloc: Global, first: FirstWord, given: &[&str]) -> Result<Command, Wor
     ensures ok { IfOk result (λ c. plain_form first (texts given.now) ≡ Some c) }
     ensures usage { IfErr result (λ e. e ≡ WordError.Usage
         → plain_form first (texts given.now) ≡ None) }
+    ensures user_path { IfOk result SetsUserPath }
 {
     match first {
         FirstWord::Order => nothing(Command::Order, given),
@@ -77,10 +80,11 @@ fn plain(alloc: Global, first: FirstWord, given: &[&str]) -> Result<Command, Wor
 }
 
 /// The command that the words say, which are those after the program's name. `Usage` is for words
-/// that say none.
+/// that say none. The path of an override to be set is a user path.
 pub fn read_words(alloc: Global, words: &[&str]) -> Result<Command, WordError>
     ensures ok { IfOk result (λ c. form (texts words.now) ≡ Some c) }
     ensures usage { IfErr result (λ e. e ≡ WordError.Usage → form (texts words.now) ≡ None) }
+    ensures user_path { IfOk result SetsUserPath }
 {
     match *words {
         [] => Err(WordError::Usage),

@@ -5,6 +5,7 @@ ghost use Rattle.clap.specs.Words.{app_of, rule_of, first_value, found_of};
 ghost use Rattle.command_words.specs.Apps.{GivesUses, option_rule, settle_app};
 ghost use Rattle.command_words.specs.Options.{options};
 ghost use Rattle.command_words.specs.Settling.{action_for, choices_by, settled, settled_by};
+ghost use Rattle.command_words.specs.Paths.{SetsUserPath};
 ghost use Rattle.command_words.specs.Words.{texts};
 
 use crate::command::Command;
@@ -111,6 +112,7 @@ pub(crate) fn settle<'a>(
     ensures ok { IfOk result (λ c. settled (drop 1 (texts words.now)) ≡ Some c) }
     ensures usage { IfErr result (λ e. e ≡ WordError.Usage
         → settled (drop 1 (texts words.now)) ≡ None) }
+    ensures user_path { IfOk result SetsUserPath }
 {
     let matches = settle_matches(alloc, name, words)?;
     settled_by(alloc, &matches).ok_or(WordError::Usage)

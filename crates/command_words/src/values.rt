@@ -1,5 +1,6 @@
 // What single words say.
 ghost use Rattle.std.specs.Prelude.{◌≡◌, None, Some, IfOk, IfErr};
+ghost use Rattle.rel_paths.specs.Names.{IsUserPath};
 ghost use Rattle.command_words.specs.Values.{mod_id, user_path, version, number};
 ghost use Rattle.profile_toml.specs.Rules.{kind_of};
 
@@ -21,6 +22,7 @@ pub(crate) fn mod_id(alloc: Global, text: &str) -> Result<ModId, WordError>
 
 pub(crate) fn user_path(alloc: Global, text: &str) -> Result<RelPath, WordError>
     ensures ok { IfOk result (λ path. user_path text.now ≡ Some path) }
+    ensures user { IfOk result IsUserPath }
     ensures usage { IfErr result (λ e. e ≡ WordError.Usage → user_path text.now ≡ None) }
 {
     match RelPath::parse(alloc, text) {

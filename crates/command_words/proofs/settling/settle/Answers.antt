@@ -1,4 +1,4 @@
-use Rattle.std.proofs.Common.{◌≡◌, ◌∙◌, ap, sym, refl, List, Option, Some, None, Result, Ok, Err, IfOk, IfErr, codes}
+use Rattle.std.proofs.Common.{◌≡◌, ◌∙◌, ap, sym, refl, subst, Bool, List, Option, Some, None, Result, Ok, Err, IfOk, IfErr, IfSome, codes}
 use Rattle.std.specs.Prelude.{option_and_then, option_map, unwrap_or}
 use Rattle.std.specs.Option.{ok_or}
 use Rattle.clap.specs.Words.{first_value, found_of}
@@ -8,6 +8,8 @@ use Rattle.command_words.specs.Options.{flag_name, value_of}
 use Rattle.command_words.specs.Settling.{action_for, choices_by, choices_with, is_set, settled, settled_by}
 use Rattle.command_words.specs.declared.command.Command.TheVariants.{Settle}
 use Rattle.change_choices.specs.declared.class.Class.TheVariants.{Replaced, Changed, Deleted, SourceDeleted, Gone}
+use Rattle.change_choices.specs.declared.choices.Choices.{Choices}
+use Rattle.command_words.specs.Paths.{SetsUserPath}
 use Rattle.command_words.specs.Words.{Text}
 use Rattle.command_words.specs.declared.command.Command.{Command}
 use Rattle.command_words.specs.declared.error.WordError.{WordError}
@@ -42,3 +44,17 @@ returns-clause-ok c = ok_is c.settled_by.result _ c.ok_or.result _ c.ok_or.ensur
 
 pub returns-clause-usage : goal.returns-clause-usage
 returns-clause-usage c = err_is c.settled_by.result _ c.ok_or.result _ _ c.ok_or.ensures.value (c.settled_by.ensures ∙ same _ _ c.in_ok-matches.ensures.ok)
+
+-- a settlement sets no override
+no_override : (choices : Option Choices) (set : Bool) → IfSome (option_map (λ choices. Settle choices set) choices) SetsUserPath
+no_override None set = tt
+no_override (Some choices) set = tt
+
+user_is : (o : Option Command) (e : WordError) → IfSome o SetsUserPath → IfOk (ok_or o e) SetsUserPath
+user_is None e user = tt
+user_is (Some c) e user = user
+
+pub returns-clause-user_path : goal.returns-clause-user_path
+returns-clause-user_path c =
+    subst (λ r. IfOk r SetsUserPath) (sym c.ok_or.ensures.value)
+    (user_is c.settled_by.result _ (subst (λ o. IfSome o SetsUserPath) (sym c.settled_by.ensures) (no_override _ _)))
