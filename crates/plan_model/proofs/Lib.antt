@@ -1,0 +1,11 @@
+pub mod Values
+pub mod Moved
+pub mod Firsts
+pub mod Paths
+pub mod Rows
+pub mod Lying
+pub mod FolderRules
+pub mod GoesBy
+pub mod Sounds
+pub mod OnePlan
+pub mod InOrder

@@ -1,0 +1,11 @@
+pub mod Premises
+pub mod Held
+pub mod Sets
+pub mod PurgeLeads
+pub mod PurgeSound
+pub mod PurgeWalks
+pub mod OnePlan
+pub mod OneFirst
+pub mod Gets
+pub mod Made
+pub mod PurgePlanned
