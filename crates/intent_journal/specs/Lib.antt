@@ -1,0 +1,9 @@
+pub mod Temps
+pub mod Causes
+pub mod Forms
+pub mod Ready
+pub mod Lengths
+pub mod Found
+pub mod TreeErrors
+pub mod Counts
+pub mod Sweeps
