@@ -29,7 +29,7 @@ next_paths a rows wins [] = refl
 next_paths a rows wins (w ∷ ws) = λ i. won_path a rows wins w i ∷ next_paths a rows wins ws i
 
 -- paths of which none lies below another are flat
-apart_flat : (paths : List (List ℕ)) → AreApart paths → AreFlat paths
+pub apart_flat : (paths : List (List ℕ)) → AreApart paths → AreFlat paths
 apart_flat [] apart = tt
 apart_flat (p ∷ ps) apart = (
   all_from_contains (λ q. extends q p ≡ false) ps (λ q c. none q c (extends q p) refl),

@@ -6,3 +6,11 @@ pub mod Refusals
 pub mod Folders
 pub mod Plans
 pub mod Laws
+pub mod Told
+pub mod Steps
+pub mod Parents
+pub mod Missing
+pub mod Order
+pub mod Search
+pub mod Sources
+pub mod Off

@@ -2,7 +2,21 @@
 //! plan.
 #![tactic(auto)]
 
+mod cases;
+mod deploy;
 mod error;
+mod folders;
 pub mod laws;
+mod lists;
+mod parents;
+mod places;
+mod plan;
+mod refuse;
+mod rows;
+mod search;
+mod steps;
+mod turned;
+mod wins;
 
+pub use deploy::make_plan;
 pub use error::PlanError;
