@@ -25,4 +25,4 @@ pub use manifest::put_manifest;
 pub use off::do_clears;
 pub use saves::do_saves;
 pub use sets::do_sets;
-pub use whole::execute;
+pub use whole::{carry_out_clear, carry_out_set, execute};

@@ -114,8 +114,18 @@ fn close<T: Tree>(intent: OpenIntent, tree: &mut T, ready: &Ready) -> Result<(),
     }
 }
 
-// The sixth to the eighth step: what a clear form leaves to do.
-fn end<T: Tree>(intent: OpenIntent, tree: &mut T, ready: &Ready) -> Result<(), ExecError>
+/// Carries out what the clear form of a plan leaves to do: the manifest, the clears and the folders
+/// to take off, and the end of the intent. Each step skips what is done.
+///
+/// The clauses speak of a disk on which the clear form stands alone and no temp is there. Every
+/// stop leads where the start leads. After Ok the desk is the one that the start leads to, with
+/// nothing pending, without an intent and without temps. `Blocked` doesn't come then, and an error
+/// leaves the intent to recovery.
+pub fn carry_out_clear<T: Tree>(
+    intent: OpenIntent,
+    tree: &mut T,
+    ready: &Ready,
+) -> Result<(), ExecError>
     requires temp { T.tells → IsFileOrAbsent
         (disk_of (T.story tree.old)) (temp_spot temp.Manifest) }
     requires place { T.tells → IsFileOrAbsent (disk_of (T.story tree.old)) manifest_spot }
@@ -185,13 +195,23 @@ fn mark_and_end<T: Tree>(intent: OpenIntent, tree: &mut T, ready: &Ready) -> Res
     ensures cause { HasCause Failed (T.faults tree.old) (T.faults tree.new) result }
 {
     match mark(intent, tree, ready) {
-        Ok(cleared) => end(cleared, tree, ready),
+        Ok(cleared) => carry_out_clear(cleared, tree, ready),
         Err(held) => Err(give_up(held, tree)),
     }
 }
 
-// The second step, and those behind it: what a set form leaves to do.
-fn carry_out<T: Tree>(intent: OpenIntent, tree: &mut T, ready: &Ready) -> Result<(), ExecError>
+/// Carries out what the set form of a plan leaves to do: the folders, saves and sets, the mark,
+/// and what the clear form leaves to do. Each step skips what is done.
+///
+/// The clauses speak of a disk on which the set form stands alone and no temp is there. Every
+/// stop leads where the start leads. After Ok the desk is the one that the start leads to, with
+/// nothing pending, without an intent and without temps. `SourceGone` and `Blocked` don't come
+/// then, and an error leaves the intent to recovery.
+pub fn carry_out_set<T: Tree>(
+    intent: OpenIntent,
+    tree: &mut T,
+    ready: &Ready,
+) -> Result<(), ExecError>
     requires guard { intent ≡ set_form ready.now }
     requires start { T.tells → CanChange (disk_of (T.story tree.old)) }
     requires temp { T.tells → IsFileOrAbsent
@@ -271,7 +291,7 @@ pub fn execute<T: Tree>(tree: &mut T, ready: &Ready) -> Result<(), ExecError>
     ensures cause { HasCause Failed (T.faults tree.old) (T.faults tree.new) result }
 {
     match begin(tree, ready) {
-        Ok(intent) => carry_out(intent, tree, ready),
+        Ok(intent) => carry_out_set(intent, tree, ready),
         Err(held) => Err(give_up(held, tree)),
     }
 }

@@ -16,14 +16,14 @@ use Rattle.plan_exec.proofs.Closing.{end_from, temps_beside}
 use Rattle.plan_exec.proofs.Controls.{way_still, controls_intent}
 use Rattle.plan_exec.proofs.whole.mark_and_end.Goals as goal
 
-pub end-requires-clause-temp : goal.end-requires-clause-temp
-end-requires-clause-temp g c = λ told.
+pub carry_out_clear-requires-clause-temp : goal.carry_out_clear-requires-clause-temp
+carry_out_clear-requires-clause-temp g c = λ told.
     let s = g.T.Tree.story c.args.tree.now in
     let t = g.T.Tree.story c.mark.new.tree in
     way_still control.ManifestTemp (disk_of s) (disk_of t) (controls_intent (disk_of s) (disk_of t) (along_last (Beside temp.Intent (disk_of s)) s t (c.mark.ensures.only told)) control.ManifestTemp (λ is. elim is [ inl h ↦ cc | inr h ↦ cc ])) (c.requires.temp told)
 
-pub end-requires-clause-place : goal.end-requires-clause-place
-end-requires-clause-place g c = λ told.
+pub carry_out_clear-requires-clause-place : goal.carry_out_clear-requires-clause-place
+carry_out_clear-requires-clause-place g c = λ told.
     let s = g.T.Tree.story c.args.tree.now in
     let t = g.T.Tree.story c.mark.new.tree in
     way_still control.Manifest (disk_of s) (disk_of t) (controls_intent (disk_of s) (disk_of t) (along_last (Beside temp.Intent (disk_of s)) s t (c.mark.ensures.only told)) control.Manifest (λ is. elim is [ inl h ↦ cc | inr h ↦ cc ])) (c.requires.place told)
@@ -33,18 +33,18 @@ returns-in-Ok-clause-stops g c = λ told ready done temps.
     let s = g.T.Tree.story c.args.tree.now in
     let t = g.T.Tree.story c.mark.new.tree in
     let beside = along_last (Beside temp.Intent (disk_of s)) s t (c.mark.ensures.only told) in
-    lead_then s t _ (c.mark.ensures.stops told ready done) (c.end.ensures.stops told (c.in-Ok.ensures.done told ready done) (temps_beside (disk_of s) (disk_of t) beside (c.in-Ok.ensures.installed told).gone temps))
+    lead_then s t _ (c.mark.ensures.stops told ready done) (c.carry_out_clear.ensures.stops told (c.in-Ok.ensures.done told ready done) (temps_beside (disk_of s) (disk_of t) beside (c.in-Ok.ensures.installed told).gone temps))
 
 pub returns-in-Ok-clause-done : goal.returns-in-Ok-clause-done
 returns-in-Ok-clause-done g c = λ told ready done temps.
     let s = g.T.Tree.story c.args.tree.now in
     let t = g.T.Tree.story c.mark.new.tree in
     let beside = along_last (Beside temp.Intent (disk_of s)) s t (c.mark.ensures.only told) in
-    end_from s t (g.T.Tree.story c.end.new.tree) c.end.result (c.mark.ensures.stops told ready done)
-    (c.end.ensures.done told (c.in-Ok.ensures.done told ready done) (temps_beside (disk_of s) (disk_of t) beside (c.in-Ok.ensures.installed told).gone temps))
+    end_from s t (g.T.Tree.story c.carry_out_clear.new.tree) c.carry_out_clear.result (c.mark.ensures.stops told ready done)
+    (c.carry_out_clear.ensures.done told (c.in-Ok.ensures.done told ready done) (temps_beside (disk_of s) (disk_of t) beside (c.in-Ok.ensures.installed told).gone temps))
 
 pub returns-in-Ok-clause-never : goal.returns-in-Ok-clause-never
-returns-in-Ok-clause-never g c = λ told ready done. c.end.ensures.never told (c.in-Ok.ensures.done told ready done)
+returns-in-Ok-clause-never g c = λ told ready done. c.carry_out_clear.ensures.never told (c.in-Ok.ensures.done told ready done)
 
 pub returns-in-Err-clause-stops : goal.returns-in-Err-clause-stops
 returns-in-Err-clause-stops g c = λ told ready done temps.
@@ -54,7 +54,7 @@ returns-in-Err-clause-stops g c = λ told ready done temps.
 pub returns-in-Ok-clause-syncs : goal.returns-in-Ok-clause-syncs
 returns-in-Ok-clause-syncs g c = λ told cleared fs.
     let n = length cleared + length c.args.ready.now.folders_off in
-    syncs_more (1 + (3 + n)) (4 + n) _ _ (omega arith) (syncs_trans 1 (3 + n) _ (g.T.Tree.story c.mark.new.tree) _ (c.mark.ensures.syncs told) (c.end.ensures.syncs told cleared fs))
+    syncs_more (1 + (3 + n)) (4 + n) _ _ (omega arith) (syncs_trans 1 (3 + n) _ (g.T.Tree.story c.mark.new.tree) _ (c.mark.ensures.syncs told) (c.carry_out_clear.ensures.syncs told cleared fs))
 
 pub returns-in-Err-clause-syncs : goal.returns-in-Err-clause-syncs
 returns-in-Err-clause-syncs g c = λ told cleared fs.
@@ -66,7 +66,7 @@ returns-in-Ok-clause-forms g c = λ told ready done temps.
     let s = g.T.Tree.story c.args.tree.now in
     let t = g.T.Tree.story c.mark.new.tree in
     let beside = along_last (Beside temp.Intent (disk_of s)) s t (c.mark.ensures.only told) in
-    along_trans (HasForms c.args.ready.now) s t _ (c.mark.ensures.forms told ready done) (c.end.ensures.forms told (c.in-Ok.ensures.done told ready done) (temps_beside (disk_of s) (disk_of t) beside (c.in-Ok.ensures.installed told).gone temps))
+    along_trans (HasForms c.args.ready.now) s t _ (c.mark.ensures.forms told ready done) (c.carry_out_clear.ensures.forms told (c.in-Ok.ensures.done told ready done) (temps_beside (disk_of s) (disk_of t) beside (c.in-Ok.ensures.installed told).gone temps))
 
 pub returns-in-Err-clause-forms : goal.returns-in-Err-clause-forms
 returns-in-Err-clause-forms g c = λ told ready done temps.
@@ -80,7 +80,7 @@ returns-in-Ok-clause-mid g c = λ told rules ready done temps a valid fresh mid.
     let t = g.T.Tree.story c.mark.new.tree in
     let beside = along_last (Beside temp.Intent (disk_of s)) s t (c.mark.ensures.only told) in
     then_while plan a s t _ (while_mid plan a s t (beside_mids plan rules a s t valid fresh mid (c.mark.ensures.only told)))
-    (while_unset plan a t _ (c.end.ensures.unset told (c.in-Ok.ensures.done told ready done) (temps_beside (disk_of s) (disk_of t) beside (c.in-Ok.ensures.installed told).gone temps)))
+    (while_unset plan a t _ (c.carry_out_clear.ensures.unset told (c.in-Ok.ensures.done told ready done) (temps_beside (disk_of s) (disk_of t) beside (c.in-Ok.ensures.installed told).gone temps)))
 
 pub returns-in-Err-clause-mid : goal.returns-in-Err-clause-mid
 returns-in-Err-clause-mid g c = λ told rules ready done temps a valid fresh mid.

@@ -10,7 +10,7 @@ use Rattle.intent_journal.specs.declared.temp.Temp.TheVariants as temp
 use Rattle.plan_exec.proofs.Chain.{lead_then}
 use Rattle.plan_exec.proofs.Closing.{end_from, temps_manifest}
 use Rattle.plan_exec.proofs.Controls.{way_still}
-use Rattle.plan_exec.proofs.whole.end.Goals as goal
+use Rattle.plan_exec.proofs.whole.carry_out_clear.Goals as goal
 
 pub close-requires : goal.close-requires
 close-requires g c = λ told. way_still control.Intent (disk_of (g.T.Tree.story c.args.tree.now)) (disk_of (g.T.Tree.story c.last_steps.new.tree)) (c.last_steps.ensures.controls told control.Intent (λ is. elim is [ inl h ↦ cc | inr h ↦ cc ])) (c.requires.intent told)

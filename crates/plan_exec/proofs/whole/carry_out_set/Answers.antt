@@ -9,7 +9,7 @@ use Rattle.rel_paths.specs.declared.control.Control.TheVariants as control
 use Rattle.plan_exec.proofs.Chain.{lead_then}
 use Rattle.plan_exec.proofs.Closing.{end_from, temps_kept}
 use Rattle.plan_exec.proofs.Controls.{way_still}
-use Rattle.plan_exec.proofs.whole.carry_out.Goals as goal
+use Rattle.plan_exec.proofs.whole.carry_out_set.Goals as goal
 
 pub mark_and_end-requires-clause-start : goal.mark_and_end-requires-clause-start
 mark_and_end-requires-clause-start g c = λ told. record {

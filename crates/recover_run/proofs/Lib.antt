@@ -1,0 +1,4 @@
+pub mod Swept
+pub mod Found
+pub mod Adopted
+pub mod Behind
