@@ -4,8 +4,6 @@ use Rattle.std.specs.List.{Contains}
 use Rattle.std.specs.declared.option.Option.TheVariants.{None, Some}
 use Rattle.std.proofs.lemmas.List.Elements.{Contains-append_left, Contains-append_right, Contains-append_cases}
 use Rattle.list_laws.proofs.Alls.{all_append}
-use Rattle.list_laws.proofs.Containing.{contains_map, map_contains}
-use Rattle.tree_fs.specs.declared.place.Place.{Place}
 use Rattle.tree_fs.specs.Spot.{Spot, spot_of}
 use Rattle.tree_fs.specs.Places.{game_spot}
 use Rattle.tree_fs.specs.Disk.{Disk}
@@ -27,20 +25,15 @@ use Rattle.deploy_plan.specs.Walk.{merged, walked_sets, walked_saves, walked_cle
 use Rattle.deploy_plan.specs.Missing.{AreNoted}
 use Rattle.deploy_plan.specs.Plans.{CanDeploy, DeployPlan}
 use Rattle.deploy_plan.specs.Told.{told, told_emptied}
-use Rattle.deploy_plan.specs.Off.{GoesByOwn, AreParted}
-use Rattle.deploy_plan.specs.Order.{HasSameSpots, HasSameEnds}
-use Rattle.deploy_plan.specs.Search.{AreFalling}
-use Rattle.deploy_plan.proofs.Gathered.{map_itself}
+use Rattle.plan_lists.specs.Off.{GoesByOwn, AreParted}
+use Rattle.deploy_plan.specs.Order.{HasSameEnds}
+use Rattle.plan_lists.specs.Order.{HasSameSpots}
+use Rattle.plan_lists.specs.Search.{AreFalling}
+use Rattle.plan_lists.proofs.Gathered.{map_itself}
 use Rattle.deploy_plan.proofs.LaidByWalk.{laid_by_walk, sets_ordered}
-use Rattle.deploy_plan.proofs.Ordered.{placed_rise, rising_listed, falling_listed, same_spots}
+use Rattle.plan_lists.proofs.Ordered.{placed_rise, rising_listed, falling_listed, same_spots, has_is, offs_are}
 use Rattle.deploy_plan.proofs.StepFacts.{emptied_are, EmptiedAt}
 use Rattle.deploy_plan.proofs.FoldersTied.{goes_by_own, made_are, own_laid_out}
-
-has_is : (places : List Place) (s : Spot) → Has places s ↔ Contains (map spot_of places) s
-has_is places s = (
-  λ h. subst (Contains (map spot_of places)) h.here (map_contains spot_of places h.place h.listed),
-  λ c. let m = contains_map spot_of places s c in record { place = m.0; listed = m.1; here = m.2 },
-)
 
 -- the lists of a plan, as the functions make them
 pub record AreLists (a : Disk) (old : Manifest) (wins : List Win) (plan : Plan) (next : List (List ℕ)) : Type 0 where
@@ -97,15 +90,7 @@ module _ (a : Disk) (old : Manifest) (wins : List Win) (can : CanDeploy a old wi
   )
 
   gone : (s : Spot) → Has plan.folders_off s ↔ GoesOff a old.folders plan s
-  gone s = (
-    λ h.
-        let m = contains_map game_spot l.off s (subst (λ m. Contains m s) l.offs ((has_is plan.folders_off s).0 h)) in
-        subst (GoesOff a old.folders plan) m.2 (((l.parted plan by).goes m.0).0 m.1).1,
-    λ g.
-        let m = contains_map game_spot old.folders s (by.owned s g).0 in
-        let c = ((l.parted plan by).goes m.0).1 (m.1, subst (GoesOff a old.folders plan) (sym m.2) g) in
-        (has_is plan.folders_off s).1 (subst (λ m. Contains m s) (sym l.offs) (subst (Contains (map game_spot l.off)) m.2 (map_contains game_spot l.off m.0 c))),
-  )
+  gone = offs_are a old.folders (won_paths wins) l.emptied plan by l.kept l.off (l.parted plan by) l.offs
 
   joined : (p : List ℕ) → Contains next p ↔ Contains l.kept p ⊎ Contains l.missing p
   joined p = (

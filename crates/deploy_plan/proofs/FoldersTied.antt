@@ -43,11 +43,11 @@ use Rattle.deploy_plan.specs.Wins.{won_paths}
 use Rattle.deploy_plan.specs.Walk.{win_alone, merged}
 use Rattle.deploy_plan.specs.Parents.{IsNoted}
 use Rattle.deploy_plan.specs.Missing.{AreNoted}
-use Rattle.deploy_plan.specs.Off.{EntryGoes, absent, given_up, folder, GoesByOwn, AreParted}
+use Rattle.plan_lists.specs.Off.{EntryGoes, absent, given_up, folder, GoesByOwn, AreParted}
 use Rattle.deploy_plan.proofs.Told.{told_at, case_is, row_facts, win_facts, path_kept}
 use Rattle.deploy_plan.proofs.Found.{won_value}
-use Rattle.deploy_plan.proofs.Shorter.{extends-lies}
-use Rattle.deploy_plan.proofs.Leaving.{placed}
+use Rattle.plan_lists.proofs.Lies.{extends-lies}
+use Rattle.plan_lists.proofs.Leaving.{placed}
 use Rattle.deploy_plan.proofs.Parented.{up_to_parent, above_from_parent}
 use Rattle.deploy_plan.proofs.StepFacts.{EmptiedAt, new_step, step_new}
 use Rattle.deploy_plan.proofs.Acts.{Acts, clears, empties, restores, places, keeps, nothing, acts}

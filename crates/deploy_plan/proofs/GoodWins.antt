@@ -34,7 +34,7 @@ use Rattle.deploy_plan.specs.Told.{IsWin, AreGoodWins}
 
 -- The sources of one mod
 
-at_target : (f : List ℕ → List ℕ) (items : List (List ℕ)) (path s : List ℕ) → source_at (map f items) items path ≡ Some s → Contains items s × (path ≡ f s)
+pub at_target : (f : List ℕ → List ℕ) (items : List (List ℕ)) (path s : List ℕ) → source_at (map f items) items path ≡ Some s → Contains items s × (path ≡ f s)
 at_target f [] path s e = absurd (cc)
 at_target f (x ∷ xs) path s e = by_test (at_target f xs path s) (bytes_eq (f x) path) refl e
   where

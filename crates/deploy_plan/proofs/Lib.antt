@@ -1,5 +1,4 @@
 pub mod WalkCode
-pub mod Gathered
 pub mod Parented
 pub mod Cased
 pub mod Walked
@@ -16,12 +15,9 @@ pub mod LaidByWalk
 pub mod OnePlan
 pub mod OneFirst
 pub mod SavePlanned
-pub mod Searched
 pub mod Shorter
 pub mod Sourced
 pub mod Turning
-pub mod Leaving
-pub mod Parting
 pub mod StepFacts
 pub mod Acts
 pub mod Ordered
@@ -38,3 +34,4 @@ pub mod Composed
 pub mod GoodRows
 pub mod GoodWins
 pub mod Deploys
+pub mod Placing

@@ -27,7 +27,7 @@ use Rattle.deploy_plan.specs.Wins.{won_paths}
 use Rattle.deploy_plan.specs.Walk.{Step, row_alone, both, win_alone, step_path, step_case, merged}
 use Rattle.deploy_plan.specs.Told.{staying, turning, told, told_win, told_row}
 use Rattle.deploy_plan.proofs.Told.{told_at, next_by, next_is, won_path, new_rows}
-use Rattle.deploy_plan.proofs.StepFacts.{gathered_of}
+use Rattle.plan_lists.proofs.Gathered.{gathered_of}
 use Rattle.deploy_plan.proofs.Walks.{steps_rise, step_cases, case_steps}
 
 module _ (a : Disk) (rows : List Row) (wins : List Win) (old : AreRising (paths_of rows)) (won : AreRising (won_paths wins)) where

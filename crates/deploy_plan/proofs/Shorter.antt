@@ -1,28 +1,22 @@
 -- What a path lies below, parent by parent.
-use Rattle.std.proofs.Common.{◌≡◌, ℕ, ◌<◌, ◌==◌, true, List, [], ◌∷◌, ◌++◌, length, take, drop, refl, sym, ap, ◌∙◌, subst, inl, inr, arith, length-append, append_assoc}
+use Rattle.std.proofs.Common.{◌≡◌, ℕ, ◌<◌, ◌==◌, List, [], ◌∷◌, ◌++◌, length, take, drop, refl, sym, ap, ◌∙◌, subst, inl, inr, arith, length-append, append_assoc}
 use Rattle.std.specs.List.{Contains}
 use Rattle.std.specs.declared.option.Option.TheVariants.{Some}
 use Rattle.std.specs.Str.{NoCharPasses}
 use Rattle.std.specs.Str.Pattern.{RFindsChar}
-use Rattle.rel_paths.specs.Names.{names_of, extends}
-use Rattle.rel_paths.proofs.NamesOf.{has_names, names_of-between, names_of-one, names_of-last, same_text}
+use Rattle.rel_paths.specs.Names.{names_of}
+use Rattle.rel_paths.proofs.NamesOf.{has_names, names_of-one, names_of-last, same_text}
 use Rattle.rel_paths.proofs.Parents.{HasNoSlash-from_char}
-use Rattle.rel_paths.proofs.Extends.{extends-tells, extends-below}
-use Rattle.tree_fs.specs.Spot.{parent, below, IsBelow}
+use Rattle.rel_paths.proofs.Extends.{extends-below}
+use Rattle.tree_fs.specs.Spot.{parent, below}
 use Rattle.tree_fs.specs.Places.{game_spot}
 use Rattle.tree_fs.proofs.Spots.{parent-below, same_spot}
 use Rattle.move_plan.proofs.Above.{cut_last}
 use Rattle.plan_model.proofs.Rows.{below-extends}
+use Rattle.plan_lists.proofs.Lies.{extends-lies}
 use Rattle.deploy_plan.specs.Search.{IsBelowOne}
 use Rattle.deploy_plan.specs.Parents.{IsAtOrAbove}
 use Rattle.deploy_plan.proofs.Parented.{up_to_parent}
-
--- what extends a path lies below it
-pub extends-lies : (p q : List ℕ) → extends q p ≡ true → IsBelow (game_spot p) (game_spot q)
-extends-lies p q e =
-    let rest = extends-tells q p e in
-    let first = has_names rest.0 in
-    record { root = refl; name = first.0; rest = first.1; names = ap names_of rest.1 ∙ names_of-between p rest.0 ∙ ap (λ l. names_of p ++ l) first.2 }
 
 module _ (paths : List (List ℕ)) (text above : List ℕ) (i j : ℕ) (found : RFindsChar 47 text (Some (i, j))) (is : above ≡ take i text) where
   names : names_of text ≡ names_of above ++ drop j text ∷ []

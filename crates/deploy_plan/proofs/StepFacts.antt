@@ -1,7 +1,6 @@
 -- The steps of the walk, by the cases of their paths.
 use Rattle.std.proofs.Common.{◌≡◌, ◌≢◌, ◌↔◌, ℕ, Bool, true, false, cond, List, [], ◌∷◌, map, filter_map, refl, sym, ap, ◌∙◌, subst}
-use Rattle.std.specs.List.{Contains, cons_option}
-use Rattle.std.specs.declared.option.Option.{Option}
+use Rattle.std.specs.List.{Contains}
 use Rattle.std.specs.declared.option.Option.TheVariants.{None, Some}
 use Rattle.list_laws.proofs.Containing.{contains_map, map_contains, contains_filter_map, filter_map_contains}
 use Rattle.rel_paths.specs.Names.{names_of}
@@ -16,17 +15,12 @@ use Rattle.desk_model.specs.Desk.{is_file}
 use Rattle.desk_model.specs.Deployed.{Win, still_wins}
 use Rattle.plan_model.specs.Rows.{has_original}
 use Rattle.plan_model.specs.Lists.{at_place}
+use Rattle.plan_lists.proofs.Gathered.{gathered_of}
 use Rattle.deploy_plan.specs.Cases.{Case, untouched, leaves, stays, turns, case_by, case_of, set_by}
 use Rattle.deploy_plan.specs.Wins.{won_paths}
 use Rattle.deploy_plan.specs.Walk.{Step, row_alone, both, win_alone, step_path, step_case, step_set, step_save, step_clear, save_by, clear_by, merged, walked_sets, walked_saves, walked_clears}
 use Rattle.deploy_plan.specs.Told.{staying, turning, told, told_win, told_path, told_set, told_save, told_clear, told_emptied}
 use Rattle.deploy_plan.proofs.Walks.{step_cases, case_steps}
-
--- Lists that are gathered of what was told
-
-pub gathered_of : {X Y Z : Type 0} (f : Y → Option Z) (g : X → Y) (h : X → Option Z) → ((x : X) → f (g x) ≡ h x) → (xs : List X) → filter_map f (map g xs) ≡ filter_map h xs
-gathered_of f g h same [] = refl
-gathered_of f g h same (x ∷ xs) = λ i. cons_option (same x i) (gathered_of f g h same xs i)
 
 module _ (a : Disk) where
   set_told : (s : Step) → told_set (told a s) ≡ step_set a s

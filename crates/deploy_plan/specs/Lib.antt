@@ -13,4 +13,4 @@ pub mod Missing
 pub mod Order
 pub mod Search
 pub mod Sources
-pub mod Off
+pub mod Scanned

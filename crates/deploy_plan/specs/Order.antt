@@ -19,9 +19,6 @@ turned_ends s = (spot_of s.1, spot_of s.0)
 abbrev pub PathsRise : List (List ℕ) → Type 0
 PathsRise = IsStrictlySortedBy (slice_cmp nat_cmp)
 
--- the one has just the places of the other
-abbrev pub HasSameSpots : List Spot → List Spot → Type 0
-HasSameSpots spots others = (x : Spot) → Contains spots x ↔ Contains others x
-
+-- the one has just the ends of the other
 abbrev pub HasSameEnds : List (Spot × Spot) → List (Spot × Spot) → Type 0
 HasSameEnds saves others = (y : Spot × Spot) → Contains saves y ↔ Contains others y

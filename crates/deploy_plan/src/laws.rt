@@ -1,5 +1,6 @@
 // The laws of a deployment's plan, each as the contract of a call that does nothing.
 ghost use Rattle.deploy_plan.specs.Laws.{DeployLeads, DeploySound, DeployOnce, WalkLaysOut, WalkInOrder, MadeForWins, OnlyOwnGo, RowsAreKept, OwnIsKept, NoneIsFirst, FirstIsOne, TurnedOrNone, ObstacleOrNone};
+ghost use Rattle.deploy_plan.specs.Scanned.{SourcesBelong, WinnersHaveSources, WinnersAreStaged};
 
 /// The plan of a deployment leads to its desk.
 pub fn deploy_leads()
@@ -50,4 +51,12 @@ pub fn one_is_first()
 pub fn first_or_none()
     ensures turned { TurnedOrNone }
     ensures walk { ObstacleOrNone }
+{}
+
+/// What the winners of scans bring with them: each file is at the target of its source, each winner
+/// has a source, and each such source is a file on the disk that was scanned.
+pub fn winners_are_scanned()
+    ensures belong { SourcesBelong }
+    ensures from { WinnersHaveSources }
+    ensures staged { WinnersAreStaged }
 {}

@@ -9,7 +9,6 @@ mod folders;
 pub mod laws;
 mod lists;
 mod parents;
-mod places;
 mod plan;
 mod refuse;
 mod rows;

@@ -1,34 +1,26 @@
 // The sets, saves and clears of a deployment, from the case of each path.
-ghost use Rattle.std.specs.Prelude.{◌≡◌, ◌++◌, IfOk, OnOk, map, filter_map, option_map, option_to_list, if◌then◌else◌, Some, None};
+ghost use Rattle.std.specs.Prelude.{◌≡◌, IfOk, map, filter_map, option_map, Some};
 ghost use Rattle.std.specs.List.{AllByRecursion};
 ghost use Rattle.tree_fs.specs.Spot.{spot_of};
 ghost use Rattle.tree_fs.specs.Places.{game_spot};
-ghost use Rattle.backup_keep.specs.Places.{backup_spot};
 ghost use Rattle.manifest_json.specs.Sound.{IsRow};
-ghost use Rattle.change_detect.specs.Classes.{staged_of};
 ghost use Rattle.desk_model.specs.Deployed.{won_spot};
 ghost use Rattle.plan_model.specs.Lists.{spotted, ends_of};
-ghost use Rattle.deploy_plan.specs.Order.{turned_ends, turned, PathsRise, HasSameSpots, HasSameEnds};
+ghost use Rattle.deploy_plan.specs.Order.{turned_ends, turned, PathsRise, HasSameEnds};
+ghost use Rattle.plan_lists.specs.Order.{HasSameSpots};
 ghost use Rattle.move_plan.specs.Rising.{AreRising};
 ghost use Rattle.deploy_plan.specs.Told.{IsWin, IsGoodCase, win_seen, case_seen, told_path, told_set, told_save, told_clear, leaving, turning, coming, covering};
 
 use crate::cases::PathCase;
-use crate::places::{game_places, in_order, push_path};
 use crate::wins::Won;
 use backup_keep::backup_place;
 use manifest_json::Row;
 use move_plan::SetRow;
+use plan_lists::{game_places, in_order, original, push_some, staged_row};
 use rel_paths::RelPath;
 use std::alloc::{AllocError, Global};
 use std::mem;
 use tree_fs::Place;
-
-fn staged_row(alloc: Global, row: &Row) -> Result<Place, AllocError>
-    requires { IsRow row.now }
-    ensures { IfOk result (λ place. spot_of place ≡ staged_of row.now) }
-{
-    Place::staged(alloc, &row.mod_id, &row.source)
-}
 
 /// The place where a winner's file is unpacked.
 pub(crate) fn staged_win(alloc: Global, win: Won) -> Result<Place, AllocError>
@@ -36,19 +28,6 @@ pub(crate) fn staged_win(alloc: Global, win: Won) -> Result<Place, AllocError>
     ensures { IfOk result (λ place. spot_of place ≡ won_spot (win_seen win.entry)) }
 {
     Place::staged(alloc, win.mod_id, win.source)
-}
-
-// The backup place of a row's path, where its original is there.
-fn original(alloc: Global, row: &Row, is_there: bool) -> Result<Option<Place>, AllocError>
-    requires { IsRow row.now }
-    ensures { IfOk result (λ from.
-        option_map spot_of from ≡ (if is_there then Some (backup_spot row.now.path) else None)) }
-{
-    if is_there {
-        Ok(Some(backup_place(alloc, &row.path)?))
-    } else {
-        Ok(None)
-    }
 }
 
 // The set of a path that no mod wins any more.
@@ -116,15 +95,6 @@ fn set_of(alloc: Global, case: PathCase) -> Result<Option<SetRow>, AllocError>
     }
 }
 
-fn push_set(sets: &mut Vec<SetRow>, set: Option<SetRow>) -> Result<(), AllocError>
-    ensures { OnOk result (sets.new.items ≡ sets.old.items ++ option_to_list set) }
-{
-    if let Some(set) = set {
-        sets.push(set)?;
-    }
-    Ok(())
-}
-
 /// The sets, in the order of their places.
 pub(crate) fn sets_of(alloc: Global, cases: &[PathCase]) -> Result<Vec<SetRow>, AllocError>
     requires { AllByRecursion (λ c. IsGoodCase (case_seen c)) cases.now }
@@ -134,7 +104,7 @@ pub(crate) fn sets_of(alloc: Global, cases: &[PathCase]) -> Result<Vec<SetRow>, 
     let mut sets = Vec::new(alloc);
     for case in cases {
         let set = set_of(alloc, *case)?;
-        push_set(&mut sets, set)?;
+        push_some(&mut sets, set)?;
     }
     Ok(sets)
 }
@@ -157,18 +127,6 @@ fn save_of(alloc: Global, case: PathCase) -> Result<Option<(Place, Place)>, Allo
     }
 }
 
-fn push_save(
-    saves: &mut Vec<(Place, Place)>,
-    save: Option<(Place, Place)>,
-) -> Result<(), AllocError>
-    ensures { OnOk result (saves.new.items ≡ saves.old.items ++ option_to_list save) }
-{
-    if let Some(save) = save {
-        saves.push(save)?;
-    }
-    Ok(())
-}
-
 // The saves, each with the place that it leads to first, in path order.
 fn saves_in_path_order(alloc: Global, cases: &[PathCase]) -> Result<Vec<(Place, Place)>, AllocError>
     requires { AllByRecursion (λ c. IsGoodCase (case_seen c)) cases.now }
@@ -178,7 +136,7 @@ fn saves_in_path_order(alloc: Global, cases: &[PathCase]) -> Result<Vec<(Place, 
     let mut saves = Vec::new(alloc);
     for case in cases {
         let save = save_of(alloc, *case)?;
-        push_save(&mut saves, save)?;
+        push_some(&mut saves, save)?;
     }
     Ok(saves)
 }
@@ -207,7 +165,7 @@ fn cleared_paths(alloc: Global, cases: &[PathCase]) -> Result<Vec<RelPath>, Allo
     let mut paths = Vec::new(alloc);
     for case in cases {
         let path = cleared_by(alloc, *case)?;
-        push_path(&mut paths, path)?;
+        push_some(&mut paths, path)?;
     }
     Ok(paths)
 }

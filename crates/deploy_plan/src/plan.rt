@@ -12,13 +12,13 @@ ghost use Rattle.deploy_plan.specs.Plans.{CanDeploy, DeployPlan};
 ghost use Rattle.deploy_plan.specs.Told.{AreGoodWins, IsGoodCase, case_seen, step_win, told, told_win_of, win_seen};
 
 use crate::cases::PathCase;
-use crate::folders::{emptied_paths, own_folders};
+use crate::folders::emptied_paths;
 use crate::lists::{clears_of, saves_of, sets_of};
-use crate::places::{game_places, in_order};
 use crate::rows::rows_of;
 use crate::wins::Won;
 use manifest_json::{Manifest, Paths, Rows};
 use move_plan::{Places, Plan, Saves, Sets};
+use plan_lists::{game_places, in_order, own_folders};
 use rel_paths::RelPath;
 use std::alloc::{AllocError, Global};
 use tree_fs::{Tree, TreeError};

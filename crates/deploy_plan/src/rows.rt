@@ -11,6 +11,7 @@ use crate::cases::PathCase;
 use crate::lists::staged_win;
 use crate::wins::Won;
 use manifest_json::Row;
+use plan_lists::push_some;
 use stage_scan::digest_of;
 use std::alloc::{AllocError, Global};
 use tree_fs::{Tree, TreeError};
@@ -62,15 +63,6 @@ fn row_of<T: Tree>(alloc: Global, tree: &mut T, case: PathCase) -> Result<Option
     }
 }
 
-fn push_row(rows: &mut Vec<Row>, row: Option<Row>) -> Result<(), AllocError>
-    ensures { OnOk result (rows.new.items ≡ rows.old.items ++ option_to_list row) }
-{
-    if let Some(row) = row {
-        rows.push(row)?;
-    }
-    Ok(())
-}
-
 /// The rows of the winners, in path order. The file of each row that isn't kept is read.
 pub(crate) fn rows_of<T: Tree>(
     alloc: Global,
@@ -91,7 +83,7 @@ pub(crate) fn rows_of<T: Tree>(
     let mut rows = Vec::new(alloc);
     for case in cases {
         let row = row_of(alloc, tree, *case)?;
-        push_row(&mut rows, row)?;
+        push_some(&mut rows, row)?;
     }
     Ok(rows)
 }

@@ -7,9 +7,10 @@ ghost use Rattle.deploy_plan.specs.Refusals.{IsTurned};
 ghost use Rattle.deploy_plan.specs.Steps.{IsNotTurned, TurnsAt, IsFirstToTurn};
 ghost use Rattle.deploy_plan.specs.Told.{step_seen};
 
-use crate::search::{has_below, lies_below};
+use crate::search::lies_below;
 use crate::steps::WalkStep;
 use manifest_json::Row;
+use plan_lists::has_below;
 use rel_paths::RelPath;
 use std::alloc::{AllocError, Global};
 

@@ -1,5 +1,6 @@
 pub mod Premises
 pub mod Held
+pub mod Here
 pub mod Sets
 pub mod PurgeLeads
 pub mod PurgeSound
@@ -9,3 +10,9 @@ pub mod OneFirst
 pub mod Gets
 pub mod Made
 pub mod PurgePlanned
+pub mod Looked
+pub mod Tied
+pub mod Passed
+pub mod MadeAside
+pub mod Composed
+pub mod Purges

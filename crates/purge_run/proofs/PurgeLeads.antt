@@ -1,10 +1,11 @@
 -- The plan of a purge leads to its desk.
 use Rattle.purge_run.proofs.Gets.{gets_file}
+use Rattle.purge_run.proofs.Here.{here_at}
 use Rattle.plan_model.proofs.Rows.{row_free}
 use Rattle.plan_model.specs.Rows.{old_of, has_original, from_backup}
 use Rattle.manifest_json.specs.declared.manifest.Manifest.{Manifest}
 use Rattle.purge_run.proofs.Premises.{backup_place, ready_for}
-use Rattle.purge_run.specs.Holds.{aside_at, bare_set, Hold, unheld, linked, over, bare, hold_of, purge_set, SetsAside, FreesOriginal, purge_moves}
+use Rattle.purge_run.specs.Holds.{aside_at, over, purge_set, SetsAside, FreesOriginal, purge_moves}
 use Rattle.desk_model.specs.Purged.{saved_of, stands_over, purged_aside, Purged}
 use Rattle.std.proofs.Common.{◌≡◌, ◌≢◌, ℕ, Bool, true, false, ◌&&◌, if◌then◌else◌, List, [], ◌∷◌, map, refl, sym, ap, ◌∙◌, subst}
 use Rattle.std.specs.List.{Contains}
@@ -33,15 +34,14 @@ use Rattle.backup_keep.specs.Origins.{origin_of}
 use Rattle.desk_model.specs.Settled.{set_aside}
 use Rattle.desk_model.specs.Outcome.{own_or, updated, recorded_or_none, planned}
 use Rattle.desk_model.proofs.Agreeing.{without-agree}
-use Rattle.plan_model.specs.Moves.{Move}
 use Rattle.purge_run.specs.Plans.{CanPurge, PurgePlan}
 use Rattle.plan_model.proofs.Values.{HasFile, its_file, no_file, is_none, file_or_absent-not_odd, off_manifest}
 use Rattle.tree_fs.proofs.Below.{none_below}
-use Rattle.plan_model.proofs.Moved.{value_at, moved-clear, moved-set, moved-save, moved-else}
+use Rattle.plan_model.proofs.Moved.{value_at, moved-clear, moved-save, moved-else}
 use Rattle.plan_model.proofs.Firsts.{Rises, IsBehind, behind-some, behind-none, row-some, row-here}
 use Rattle.plan_model.proofs.Paths.{good-not_backup, good-off, backup-off, not_manifest}
 use Rattle.plan_model.proofs.FolderRules.{folder_rule}
-use Rattle.purge_run.proofs.Held.{Found, told_at, hold_none, hold_over, row_good, behind_unset, path_kept, game_unsaved, frees_row, next_once, next_absent}
+use Rattle.purge_run.proofs.Held.{told_at, hold_none, hold_over, row_good, behind_unset, game_unsaved, frees_row, next_once, next_absent}
 use Rattle.backup_keep.proofs.Kept.{origin_of-aside, aside-origin_of}
 
 module _ (a : Disk) (n : ℕ) (can : CanPurge a (old_of a) n) (plan : Plan) (is : PurgePlan a (old_of a) n plan) where
@@ -50,18 +50,6 @@ module _ (a : Disk) (n : ℕ) (can : CanPurge a (old_of a) n) (plan : Plan) (is 
 
   abbrev now : Spot → Value
   now = updated plan a.now
-
-  -- the place of a path
-  abbrev here_by : Option Move → Value → Value
-  here_by None here = here
-  here_by (Some v) here = value_at a.now v.from
-
-  here_value : (t : List ℕ) → IsFreePath t → now (game_spot t) ≡ here_by (purge_set a n (hold_of a old.rows (names_of t))) (a.now (game_spot t))
-  here_value t good = by_set (purge_set a n (hold_of a old.rows (names_of t))) refl
-    where
-      by_set : (o : Option Move) → (purge_moves a old.rows n).sets (game_spot t) ≡ o → now (game_spot t) ≡ here_by o (a.now (game_spot t))
-      by_set None e = moved-else (purge_moves a old.rows n) plan is.moves a.now (game_spot t) e (path_kept a old n can t good) (λ y. game_unsaved a old n can (names_of t) y)
-      by_set (Some v) e = moved-set (purge_moves a old.rows n) plan is.moves a.now (game_spot t) v e (path_kept a old n can t good)
 
   -- from backup
   abbrev original_of : Row → Value
@@ -75,23 +63,8 @@ module _ (a : Disk) (n : ℕ) (can : CanPurge a (old_of a) n) (plan : Plan) (is 
       by_tests true true e = refl
       by_tests true false e = sym (no_file (a.now (backup_spot r.path)) e)
 
-  here_case : (t : List ℕ) (h : Hold) (r : Row) → Found a old.rows (names_of t) h → row_at old.rows (names_of t) ≡ Some r → here_by (purge_set a n h) (a.now (game_spot t)) ≡ original_of r
-  here_case t unheld r f e = let u : None ≡ Some r = sym f ∙ e in absurd (cc)
-  here_case t (linked s) r f e = let u : Some s ≡ Some r = sym f.0 ∙ e in from_original s ∙ ap original_of (let i : s ≡ r = cc in i)
-  here_case t (over s) r f e = let u : Some s ≡ Some r = sym f.0 ∙ e in from_original s ∙ ap original_of (let i : s ≡ r = cc in i)
-  here_case t (bare s) r f e =
-      let u : Some s ≡ Some r = sym f.0 ∙ e in
-      by_test (has_original a s) refl ∙ from_original s ∙ ap original_of (let i : s ≡ r = cc in i)
-    where
-      empty : a.now (game_spot t) ≡ none
-      empty = ap (λ q. a.now (in_game q)) (sym (row_good a old n can (names_of t) s f.0).1) ∙ f.1
-
-      by_test : (b : Bool) → has_original a s ≡ b → here_by (bare_set a s b) (a.now (game_spot t)) ≡ value_at a.now (if b then Some (backup_spot s.path) else None)
-      by_test true e = refl
-      by_test false e = empty
-
   here_is : (t : List ℕ) (r : Row) → IsFreePath t → row_at old.rows (names_of t) ≡ Some r → now (game_spot t) ≡ original_of r
-  here_is t r good e = here_value t good ∙ here_case t (hold_of a old.rows (names_of t)) r (told_at a old n can (names_of t) _ refl) e
+  here_is t r good e = here_at a old n can plan is.moves t r good e ∙ from_original r
 
   seen_here : (t : List ℕ) (f : Spot → Value) → IsFreePath t → without_manifest f (game_spot t) ≡ f (game_spot t)
   seen_here t f good = off_manifest f (game_spot t) (not_manifest (names_of t) (good-off t good))

@@ -24,7 +24,7 @@ use Rattle.purge_run.specs.Holds.{purge_moves}
 use Rattle.purge_run.specs.Walk.{purge_sets, purge_saves, purge_clears}
 use Rattle.purge_run.specs.Refusals.{NoRefusal, IsRefusal, IsPurgeRefusal}
 use Rattle.purge_run.specs.Folders.{IsMissingAside}
-use Rattle.purge_run.specs.Plans.{CanPurge, PurgePlan}
+use Rattle.purge_run.specs.Plans.{CanPurge, PurgePlan, IsPurgePlan}
 
 -- the plan over a disk's own manifest, as a set form, leads to the desk of the purge
 abbrev pub PurgeLeads : Type 0
@@ -43,6 +43,11 @@ abbrev pub PurgeOnce : Type 0
 PurgeOnce =
     (a : Disk) (old : Manifest) (n : ℕ) (p q : Plan)
     → PurgePlan a old n p → PurgePlan a old n q → p ≡ q
+
+-- and there is one plan
+abbrev pub PurgeIsOne : Type 0
+PurgeIsOne =
+    (a : Disk) (old : Manifest) (p q : Plan) → IsPurgePlan a old p → IsPurgePlan a old q → p ≡ q
 
 -- a plan with the lists of one pass over the rows, each in its order, moves what a purge moves
 abbrev pub PurgeWalks : Type 0

@@ -5,3 +5,6 @@ pub mod Refusals
 pub mod Folders
 pub mod Plans
 pub mod Laws
+pub mod Told
+pub mod Looks
+pub mod MadeFolders

@@ -25,3 +25,10 @@ pub record CanPurge (a : Disk) (old : Manifest) (n : ℕ) : Type 0 where
   pub own : AreFolders old.folders
   pub next : SetsSomeAside a old.rows → IsNextAside a n
   pub passes : NoRefusal a old.rows
+
+-- the plan of a purge over an old manifest that nothing refuses: what is set aside has the next
+-- number
+pub record IsPurgePlan (a : Disk) (old : Manifest) (plan : Plan) : Type 0 where
+  pub number : ℕ
+  pub can : CanPurge a old number
+  pub is : PurgePlan a old number plan

@@ -1,5 +1,5 @@
 // The laws of a purge's plan, each as the contract of a call that does nothing.
-ghost use Rattle.purge_run.specs.Laws.{PurgeLeads, PurgeSound, PurgeOnce, PurgeWalks, SetsInOrder, SavesInOrder, MadeForAsides, OnlyOwnGo, NoneIsFirst, FirstIsOne};
+ghost use Rattle.purge_run.specs.Laws.{PurgeLeads, PurgeSound, PurgeOnce, PurgeIsOne, PurgeWalks, SetsInOrder, SavesInOrder, MadeForAsides, OnlyOwnGo, NoneIsFirst, FirstIsOne};
 
 /// The plan of a purge leads to its desk.
 pub fn purge_leads()
@@ -11,9 +11,10 @@ pub fn purge_sound()
     ensures { PurgeSound }
 {}
 
-/// A purge with its aside number has one plan.
+/// A purge has one plan, and so it has with each aside number.
 pub fn purge_once()
-    ensures { PurgeOnce }
+    ensures once { PurgeOnce }
+    ensures one { PurgeIsOne }
 {}
 
 /// The lists of one pass over the rows say what a purge moves.

@@ -1,9 +1,9 @@
 use Rattle.std.proofs.Common.{◌≡◌, subst, map, filter_map, IfOk}
 use Rattle.tree_fs.specs.Spot.{spot_of}
 use Rattle.tree_fs.specs.Places.{game_spot}
-use Rattle.deploy_plan.specs.Order.{HasSameSpots}
+use Rattle.plan_lists.specs.Order.{HasSameSpots}
 use Rattle.deploy_plan.specs.Told.{case_seen, told_clear}
-use Rattle.deploy_plan.proofs.Ordered.{rise_answer, same_answer, same_spots}
+use Rattle.plan_lists.proofs.Ordered.{rise_answer, same_answer, same_spots}
 use Rattle.deploy_plan.proofs.lists.clears_of.Goals as goal
 
 pub returns-clause-order : goal.returns-clause-order

@@ -17,20 +17,21 @@ use Rattle.plan_model.specs.Lists.{spotted, ends_of}
 use Rattle.deploy_plan.specs.Cases.{next_row}
 use Rattle.deploy_plan.specs.Wins.{won_paths}
 use Rattle.deploy_plan.specs.Walk.{merged, walked_saves, walked_clears}
-use Rattle.deploy_plan.specs.Order.{HasSameEnds, HasSameSpots, PathsRise}
-use Rattle.deploy_plan.specs.Off.{GoesByOwn, AreParted}
+use Rattle.deploy_plan.specs.Order.{HasSameEnds, PathsRise}
+use Rattle.plan_lists.specs.Order.{HasSameSpots}
+use Rattle.plan_lists.specs.Off.{GoesByOwn, AreParted}
 use Rattle.deploy_plan.specs.Told.{HasStaged, case_seen, step_win, told, told_win_of, told_path, told_set, told_save, told_clear, told_emptied, told_row, won_path, win_seen}
 use Rattle.deploy_plan.proofs.Composed.{AreLists, planned}
 use Rattle.deploy_plan.proofs.GoodRows.{all_staged, gathered_same, good_rows, wins_walked}
 use Rattle.deploy_plan.proofs.NewRows.{rows_told}
-use Rattle.deploy_plan.proofs.Ordered.{same_spots}
+use Rattle.plan_lists.proofs.Ordered.{same_spots}
 use Rattle.deploy_plan.proofs.Saving.{map_map}
 use Rattle.deploy_plan.proofs.StepFacts.{sets_told, saves_told, clears_told, paths_told}
 use Rattle.deploy_plan.proofs.Walks.{steps_rise}
 use Rattle.deploy_plan.proofs.plan.plan_of.Goals as goal
 
-pub own_folders-requires-clause-wins : goal.own_folders-requires-clause-wins
-own_folders-requires-clause-wins g c = subst paths.AreRising (map_map (λ (w : Win). w.path) win_seen c.args.wins.now) c.requires.wins.rise
+pub own_folders-requires-clause-files : goal.own_folders-requires-clause-files
+own_folders-requires-clause-files g c = subst paths.AreRising (map_map (λ (w : Win). w.path) win_seen c.args.wins.now) c.requires.wins.rise
 
 pub own_after-requires-clause-kept : goal.own_after-requires-clause-kept
 own_after-requires-clause-kept g c =

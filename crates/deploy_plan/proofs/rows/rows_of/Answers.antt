@@ -3,7 +3,7 @@ use Rattle.list_laws.proofs.Alls.{all_this}
 use Rattle.tree_fs.specs.Story.{disk_of}
 use Rattle.manifest_json.specs.declared.manifest.Row.{Row}
 use Rattle.deploy_plan.specs.Told.{row_win, told_win_of, HasStaged, case_seen, told_row}
-use Rattle.deploy_plan.proofs.Gathered.{gathered_more, gathered_all, map_itself, option_itself}
+use Rattle.plan_lists.proofs.Gathered.{gathered_more, gathered_all, map_itself, option_itself}
 use Rattle.deploy_plan.proofs.rows.rows_of.Goals as goal
 
 pub row_of-requires-clause-staged : goal.row_of-requires-clause-staged
@@ -21,10 +21,10 @@ loop-case-preserved g c =
     record {
       same = λ yes. c.in_ok-row.ensures.same yes ∙ c.loop-case.invariant.same yes;
       later = omega arith;
-      wins = gathered_more told_win_of case_seen row_win c.args.cases.now c.loop-case.case-index item _ _ _ c.loop-case-test.true c.case-item.is c.loop-case.invariant.wins c.in_ok-row.ensures.win c.in_ok-push_row.ensures;
+      wins = gathered_more told_win_of case_seen row_win c.args.cases.now c.loop-case.case-index item _ _ _ c.loop-case-test.true c.case-item.is c.loop-case.invariant.wins c.in_ok-row.ensures.win c.in_ok-push_some.ensures;
       so_far = λ yes.
           gathered_more (told_row (disk_of start)) case_seen (λ (r : Row). r) c.args.cases.now c.loop-case.case-index item _ _ _ c.loop-case-test.true c.case-item.is (c.loop-case.invariant.so_far yes)
-          (option_itself c.in_ok-row.row ∙ c.in_ok-row.ensures.answer yes ∙ ap (λ s. told_row (disk_of s) (case_seen item)) (c.loop-case.invariant.same yes)) c.in_ok-push_row.ensures;
+          (option_itself c.in_ok-row.row ∙ c.in_ok-row.ensures.answer yes ∙ ap (λ s. told_row (disk_of s) (case_seen item)) (c.loop-case.invariant.same yes)) c.in_ok-push_some.ensures;
     }
 
 pub returns-clause-answer : goal.returns-clause-answer

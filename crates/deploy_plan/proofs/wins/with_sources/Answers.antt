@@ -3,7 +3,7 @@ use Rattle.winner_table.specs.declared.wins.WinRow.{WinRow}
 use Rattle.list_laws.proofs.Alls.{all_one_more}
 use Rattle.deploy_plan.specs.Told.{win_seen}
 use Rattle.deploy_plan.specs.Sources.{found_win}
-use Rattle.deploy_plan.proofs.Gathered.{gathered_more, gathered_all}
+use Rattle.plan_lists.proofs.Gathered.{gathered_more, gathered_all}
 use Rattle.deploy_plan.proofs.Sourced.{all_found}
 use Rattle.deploy_plan.proofs.wins.with_sources.Goals as goal
 

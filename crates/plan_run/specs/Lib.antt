@@ -1,0 +1,5 @@
+pub mod Errors
+pub mod Quiet
+pub mod Runs
+pub mod Concerned
+pub mod Laws

@@ -1,0 +1,11 @@
+use Rattle.plan_model.specs.Lists.{spotted}
+use Rattle.purge_run.specs.Told.{case_seen, told_set}
+use Rattle.plan_lists.proofs.Gathered.{gathered_more, gathered_all}
+use Rattle.purge_run.proofs.lists.sets_of.Goals as goal
+
+pub loop-case-preserved : goal.loop-case-preserved
+loop-case-preserved c =
+    gathered_more (told_set c.args.number) case_seen spotted c.args.cases.now c.loop-case.case-index c.case-item.result _ _ _ c.loop-case-test.true c.case-item.is c.loop-case.invariant c.in_ok-set.ensures c.in_ok-push_some.ensures
+
+pub returns : goal.returns
+returns c = gathered_all (told_set c.args.number) case_seen spotted c.args.cases.now c.loop-case.case-index _ c.loop-case-test.false c.loop-case.invariant
