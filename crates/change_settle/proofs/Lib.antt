@@ -1,0 +1,15 @@
+pub mod Premises
+pub mod Sets
+pub mod RowPlaces
+pub mod Saved
+pub mod Stands
+pub mod SettleSound
+pub mod NextRows
+pub mod Kept
+pub mod Plain
+pub mod Aside
+pub mod Gets
+pub mod SettleLeads
+pub mod OnePlan
+pub mod OneFirst
+pub mod Walks
