@@ -1,8 +1,10 @@
 // Plans that are written as texts. A line is a word and places: `folder` and a place; `save`, a
 // source and a destination; `set`, a destination and its source, then, where there is one, the
-// place where the old file stays; `clear` and a place; `remove` and a folder. A dash is no source.
+// place where the old file stays; `clear` and a place; `remove` and a folder; `manifest` and its
+// name. A dash is no source.
 ghost use Rattle.move_plan.specs.Rules.{PassesRules};
 
+use crate::manifests::manifest;
 use intent_journal::{Ready, prepare};
 use manifest_json::Manifest;
 use move_plan::{Places, Plan, Saves, SetRow, Sets, check_plan};
@@ -73,23 +75,33 @@ fn sets(rt: &(impl AllocGlobal + Abort), lines: &str) -> Sets {
     Sets::new(sets)
 }
 
-// The plan that these lines are, with this manifest.
-fn plan(rt: &(impl AllocGlobal + Abort), lines: &str, manifest: Option<Manifest>) -> Plan {
+// The manifest that a line names, if one does.
+fn named_manifest(rt: &(impl AllocGlobal + Abort), lines: &str) -> Option<Manifest> {
+    for line in lines.lines() {
+        if let Some(name) = line.strip_prefix("manifest ") {
+            return Some(manifest(rt, name));
+        }
+    }
+    None
+}
+
+// The plan that these lines are.
+fn plan(rt: &(impl AllocGlobal + Abort), lines: &str) -> Plan {
     Plan {
         folders: places(rt, lines, "folder "),
         saves: saves(rt, lines),
         sets: sets(rt, lines),
-        manifest,
+        manifest: named_manifest(rt, lines),
         clears: places(rt, lines, "clear "),
         folders_off: places(rt, lines, "remove "),
     }
 }
 
-// The plan that these lines are, with this manifest, which has to pass the rules.
-fn sound_plan(rt: &(impl AllocGlobal + Abort), lines: &str, manifest: Option<Manifest>) -> Plan
+// The plan that these lines are, which has to pass the rules.
+fn sound_plan(rt: &(impl AllocGlobal + Abort), lines: &str) -> Plan
     ensures { PassesRules result }
 {
-    let plan = plan(rt, lines, manifest);
+    let plan = plan(rt, lines);
     if check_plan(&plan).is_ok() {
         return plan;
     }
@@ -98,5 +110,5 @@ fn sound_plan(rt: &(impl AllocGlobal + Abort), lines: &str, manifest: Option<Man
 
 // The plan of these lines, with what its steps need.
 pub fn ready(rt: &(impl AllocGlobal + Abort), lines: &str) -> Ready {
-    prepare(rt.alloc(), sound_plan(rt, lines, None), 1_000_000).expect(rt, "a short intent")
+    prepare(rt.alloc(), sound_plan(rt, lines), 1_000_000).expect(rt, "a short intent")
 }

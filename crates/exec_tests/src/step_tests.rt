@@ -1,15 +1,19 @@
-// The saves, sets and clears of a plan.
+// The steps of a plan, each by itself.
+use crate::looks::need_open_places;
 use crate::plans::ready;
-use plan_exec::{ExecError, do_clears, do_saves, do_sets};
+use intent_journal::Ready;
+use plan_exec::{ExecError, do_clears, do_saves, do_sets, make_folders, put_manifest};
 use std::process::Abort;
-use test_worlds::{count_steps, fail_call, steps_of, world};
+use test_worlds::{fail_call, steps_of, world};
 use tree_mem::MemTree;
 
 // A step of a plan.
 #[derive(Clone, Copy)]
 enum Step {
+    Folders,
     Saves,
     Sets,
+    Manifest,
     Clears,
 }
 
@@ -21,10 +25,21 @@ fn done(
 ) -> Result<(), ExecError> {
     let ready = ready(rt, plan);
     match step {
+        Step::Folders => make_folders(tree, &ready),
         Step::Saves => do_saves(tree, &ready),
         Step::Sets => do_sets(tree, &ready),
+        Step::Manifest => put_its_manifest(rt, tree, &ready),
         Step::Clears => do_clears(tree, &ready),
     }
+}
+
+fn put_its_manifest(
+    rt: &(impl AllocGlobal + Abort),
+    tree: &mut MemTree,
+    ready: &Ready,
+) -> Result<(), ExecError> {
+    need_open_places(tree).expect(rt, "open places");
+    put_manifest(tree, ready)
 }
 
 fn answer(rt: &(impl AllocGlobal + Abort), outcome: Result<(), ExecError>) -> String {
@@ -48,6 +63,26 @@ fn check(
     assert_eq!(rt; found.as_str(), wanted);
     let made = steps_of(rt.alloc(), &tree).expect(rt, "memory");
     assert_eq!(rt; made.as_str(), steps);
+}
+
+const FOLDERS: &str = "folder game/d\nfolder game/d/e";
+
+const DEEP: &str = "folder game/d/e";
+
+#[test]
+fn folders_are_made_where_none_is(rt: HostRuntime) {
+    for (lines, plan, wanted, steps) in [
+        ("", FOLDERS, "done", "make game/d\nmake game/d/e\n"),
+        ("game/d", FOLDERS, "done", "make game/d/e\n"),
+        ("game/d/e", FOLDERS, "done", ""),
+        ("game/d = \"g\"", FOLDERS, "game/d is in the way", ""),
+        ("game/d/e = \"g\"", FOLDERS, "game/d/e is in the way", ""),
+        // a folder whose parent is none
+        ("", DEEP, "game/d is in the way", ""),
+        ("game/d = \"g\"", DEEP, "game/d is in the way", ""),
+    ] {
+        check(&rt, Step::Folders, lines, plan, wanted, steps);
+    }
 }
 
 const SAVE: &str = "save game/x game/x.vortex_backup
@@ -184,6 +219,44 @@ sync game/d
     }
 }
 
+const NEW_MANIFEST: &str = "create keep/manifest.tmp
+fill keep/manifest.tmp
+firm keep/manifest.tmp
+rename keep/manifest.tmp game/vortex.deployment.json
+sync game
+sync keep
+";
+
+const RENEWED_MANIFEST: &str = "unlink keep/manifest.tmp
+create keep/manifest.tmp
+fill keep/manifest.tmp
+firm keep/manifest.tmp
+rename keep/manifest.tmp game/vortex.deployment.json
+sync game
+sync keep
+";
+
+const MANIFEST: &str = "game/vortex.deployment.json = \"{}\"";
+
+const OLD_TEMP: &str = "game/vortex.deployment.json = \"{}\"\nkeep/manifest.tmp = \"{\"";
+
+#[test]
+fn a_manifest_comes_by_its_temp_or_goes(rt: HostRuntime) {
+    for (lines, plan, steps) in [
+        ("", "manifest EMPTY", NEW_MANIFEST),
+        (MANIFEST, "manifest EMPTY", NEW_MANIFEST),
+        (OLD_TEMP, "manifest EMPTY", RENEWED_MANIFEST),
+        ("", "", "sync game\nsync keep\n"),
+        (
+            MANIFEST,
+            "",
+            "unlink game/vortex.deployment.json\nsync game\nsync keep\n",
+        ),
+    ] {
+        check(&rt, Step::Manifest, lines, plan, "done", steps);
+    }
+}
+
 const CLEARS: &str = "clear game/x.vortex_backup\nclear keep/aside/1/game/x";
 
 #[test]
@@ -211,6 +284,29 @@ sync keep/aside/1/game
         ),
     ] {
         check(&rt, Step::Clears, lines, CLEARS, wanted, steps);
+    }
+}
+
+const OFF: &str = "remove game/d/e\nremove game/d";
+
+#[test]
+fn folders_go_where_they_are_empty(rt: HostRuntime) {
+    for (lines, steps) in [
+        (
+            "game/d/e",
+            "sync game/d/e\nremove game/d/e\nsync game/d\nremove game/d\n",
+        ),
+        ("game/d", "sync game/d\nremove game/d\n"),
+        ("", ""),
+        // what others put there keeps it
+        ("game/d/e/y = \"y\"", ""),
+        (
+            "game/d/e\ngame/d/y = \"y\"",
+            "sync game/d/e\nremove game/d/e\n",
+        ),
+        ("game/d = \"g\"", ""),
+    ] {
+        check(&rt, Step::Clears, lines, OFF, "done", steps);
     }
 }
 
@@ -254,27 +350,4 @@ fn a_fault_ends_a_step(rt: HostRuntime) {
     ] {
         check_fault(&rt, call, was_done, steps);
     }
-}
-
-// A thousand lines, each with its number between the first two texts and behind them.
-fn numbered(rt: &(impl AllocGlobal + Abort), front: &str, mid: &str, end: &str) -> String {
-    let mut text = String::new(rt.alloc());
-    for number in 1000..2000 {
-        let line = format!(in rt.alloc(); "{front}{number}{mid}{number}{end}\n");
-        text.push_str(line.expect(rt, "memory").as_str())
-            .expect(rt, "memory");
-    }
-    text
-}
-
-#[test]
-fn a_thousand_sets_in_one_folder_are_synced_once(rt: HostRuntime) {
-    let plan = numbered(&rt, "set game/d/", " stage/a/", "");
-    let mut lines = numbered(&rt, "stage/a/", " = \"", "\"");
-    lines.push_str("game/d").expect(&rt, "memory");
-    let mut tree = world(rt.alloc(), lines.as_str()).expect(&rt, "a world");
-    let found = answer(&rt, done(&rt, Step::Sets, &mut tree, plan.as_str()));
-    assert_eq!(&rt; found.as_str(), "done");
-    assert_eq!(&rt; count_steps(&tree, "link"), 1000);
-    assert_eq!(&rt; count_steps(&tree, "sync"), 1);
 }
