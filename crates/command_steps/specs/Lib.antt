@@ -1,0 +1,11 @@
+pub mod Mods
+pub mod Stops
+pub mod Profiles
+pub mod Scans
+pub mod Looks
+pub mod Manifests
+pub mod Plans
+pub mod Steps
+pub mod Orders
+pub mod Found
+pub mod Laws
