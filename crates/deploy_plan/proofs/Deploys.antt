@@ -25,7 +25,7 @@ use Rattle.desk_model.specs.Outcome.{outcome_by}
 use Rattle.plan_model.specs.Rows.{old_of}
 use Rattle.deploy_plan.specs.Errors.{of_tree}
 use Rattle.deploy_plan.specs.Walk.{Step, row_alone, both, win_alone, by_order, with_row, merged}
-use Rattle.deploy_plan.specs.Refusals.{HasNoChanges, IsPlanRefusal}
+use Rattle.deploy_plan.specs.Refusals.{HasNoChanges, NoRefusal, IsPlanRefusal}
 use Rattle.deploy_plan.specs.Steps.{IsFreeStep, IsNotTurned}
 use Rattle.deploy_plan.specs.Plans.{CanDeploy, DeployPlan}
 use Rattle.deploy_plan.specs.Told.{IsWin, AreGoodWins, IsGoodStep}
@@ -65,6 +65,10 @@ module _ (a : Disk) (old : Manifest) (wins : List Win) where
     won = record { good = all_map IsFreePath (λ (w : Win). w.path) wins (all_weaken IsWin (λ w. IsFreePath w.path) wins (λ w h. h.path) good.each); rise = good.rise; apart = good.apart; staged = staged };
     passes = record { changes = clean; turned = none_turned a old.rows wins rows good.rise turned; walk = walk_passes a old.rows wins rows good.rise free };
   }
+
+  pub plan_passes : {E : Type 0} (r : Result Plan E) → OnOk r (CanDeploy a old wins) → OnOk r (NoRefusal a old.rows wins)
+  plan_passes (Ok plan) can = can.passes
+  plan_passes (Err e) can = tt
 
   pub plan_sound : {E : Type 0} (r : Result Plan E) → OnOk r (CanDeploy a old wins) → IfOk r (DeployPlan a old wins) → IfOk r (SoundPlan a)
   plan_sound (Ok plan) can is = deploy_sound a old wins can plan is

@@ -1,9 +1,10 @@
 -- The folders of the plan of a deployment, by what the walk found.
-use Rattle.std.proofs.Common.{◌≡◌, ◌≢◌, ◌⊎◌, ◌↔◌, ℕ, Bool, true, false, cond, List, map, refl, sym, ap, ◌∙◌, subst, inl, inr}
-use Rattle.std.specs.List.{Contains}
+use Rattle.std.proofs.Common.{◌≡◌, ◌≢◌, ◌⊎◌, ◌↔◌, ℕ, Bool, true, false, cond, List, map, filter_map, refl, sym, ap, ◌∙◌, subst, inl, inr}
+use Rattle.std.specs.List.{AllByRecursion, Contains}
 use Rattle.std.specs.declared.option.Option.{Option}
 use Rattle.std.specs.declared.option.Option.TheVariants.{None, Some}
 use Rattle.std.proofs.lemmas.Bool.{and_parts}
+use Rattle.list_laws.proofs.Alls.{all_from_contains}
 use Rattle.list_laws.proofs.Containing.{contains_map, map_contains}
 use Rattle.rel_paths.specs.Names.{names_of, extends}
 use Rattle.rel_paths.proofs.NamesOf.{same_text}
@@ -11,7 +12,7 @@ use Rattle.tree_fs.specs.declared.name.Kind.{Kind}
 use Rattle.tree_fs.specs.declared.name.Kind.TheVariants.{Absent, File, Folder, Other}
 use Rattle.tree_fs.specs.Spot.{Spot, below, IsBelow}
 use Rattle.tree_fs.specs.Places.{game_spot}
-use Rattle.tree_fs.specs.Disk.{Disk, Value, none, kind_of}
+use Rattle.tree_fs.specs.Disk.{Disk, Value, none, IsFile, kind_of}
 use Rattle.tree_fs.specs.Calls.{IsFolder}
 use Rattle.tree_fs.proofs.Below.{below-entry, below-trans, above_value, none_below}
 use Rattle.tree_fs.proofs.KindOf.{kind-absent, kind-folder, folder-kind, absent-kind}
@@ -30,7 +31,7 @@ use Rattle.desk_model.specs.Outcome.{updated}
 use Rattle.plan_model.specs.Rows.{has_original}
 use Rattle.plan_model.specs.Moves.{Moves, LaidOut}
 use Rattle.plan_model.specs.Folders.{IsMade, IsListed, GoesOff, OwnLaidOut, EntriesGo}
-use Rattle.plan_model.proofs.Values.{HasFile, file_true, file_some, has_file-kind}
+use Rattle.plan_model.proofs.Values.{HasFile, file_true, file_some, is_file-at, has_file-kind}
 use Rattle.plan_model.proofs.Firsts.{win-here}
 use Rattle.plan_model.proofs.Moved.{value_at, moved-clear, moved-set, moved-is_set}
 use Rattle.plan_model.proofs.Paths.{above_backup}
@@ -41,6 +42,8 @@ use Rattle.deploy_plan.specs.Cases.{leaves, covers, case_by, case_of, set_by, Fr
 use Rattle.deploy_plan.specs.Plans.{CanDeploy}
 use Rattle.deploy_plan.specs.Wins.{won_paths}
 use Rattle.deploy_plan.specs.Walk.{win_alone, merged}
+use Rattle.deploy_plan.specs.Told.{told, told_emptied}
+use Rattle.plan_lists.specs.Order.{HasSameSpots}
 use Rattle.deploy_plan.specs.Parents.{IsNoted}
 use Rattle.deploy_plan.specs.Missing.{AreNoted}
 use Rattle.plan_lists.specs.Off.{EntryGoes, absent, given_up, folder, GoesByOwn, AreParted}
@@ -49,8 +52,26 @@ use Rattle.deploy_plan.proofs.Found.{won_value}
 use Rattle.plan_lists.proofs.Lies.{extends-lies}
 use Rattle.plan_lists.proofs.Leaving.{placed}
 use Rattle.deploy_plan.proofs.Parented.{up_to_parent, above_from_parent}
-use Rattle.deploy_plan.proofs.StepFacts.{EmptiedAt, new_step, step_new}
+use Rattle.deploy_plan.proofs.StepFacts.{EmptiedAt, emptied_are, new_step, step_new}
 use Rattle.deploy_plan.proofs.Acts.{Acts, clears, empties, restores, places, keeps, nothing, acts}
+
+-- where there is no file in the end there is one now
+module _ (a : Disk) (old : Manifest) (wins : List Win) (can : CanDeploy a old wins) where
+  emptied_file : (x : Spot) → EmptiedAt a old.rows wins can.rows.rise can.won.rise x → HasFile (a.now x)
+  emptied_file x h = by_original (has_original a h.row) refl
+    where
+      by_original : (b : Bool) → has_original a h.row ≡ b → HasFile (a.now x)
+      by_original true e =
+          let here : backup_spot h.row.path ≡ x = sym (h.here ∙ ap (λ b. cond b (backup_spot h.row.path) (game_spot h.row.path)) e) in
+          subst (λ y. HasFile (a.now y)) here (file_true (a.now (backup_spot h.row.path)) (and_parts h.row.shadowed (is_file (a.now (backup_spot h.row.path))) e).1)
+      by_original false e =
+          let here : x ≡ game_spot h.row.path = h.here ∙ ap (λ b. cond b (backup_spot h.row.path) (game_spot h.row.path)) e in
+          subst (λ y. HasFile (a.now y)) (sym here) (row_facts a old wins can (names_of h.row.path) h.row (told_at a old.rows wins (names_of h.row.path) (leaves h.row) h.case).0).deployed
+
+  pub emptied_stand : (emptied : List (List ℕ)) → HasSameSpots (map game_spot emptied) (filter_map told_emptied (map (told a) (merged old.rows wins))) → AllByRecursion (λ p. IsFile a (game_spot p)) emptied
+  emptied_stand emptied same =
+      all_from_contains (λ p. IsFile a (game_spot p)) emptied
+      (λ p c. is_file-at a (game_spot p) (emptied_file (game_spot p) ((emptied_are a old.rows wins can.rows.rise can.won.rise (game_spot p)).0 ((same (game_spot p)).0 (map_contains game_spot emptied p c)))))
 
 module _ (a : Disk) (old : Manifest) (wins : List Win) (can : CanDeploy a old wins) (plan : Plan) (laid : LaidOut (deploy_moves a old.rows wins) plan) where
   abbrev m : Moves

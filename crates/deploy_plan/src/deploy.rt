@@ -14,7 +14,7 @@ ghost use Rattle.desk_model.specs.Deployed.{Deployed, won_spot};
 ghost use Rattle.desk_model.specs.Outcome.{outcome_by};
 ghost use Rattle.plan_model.specs.Rows.{old_of};
 ghost use Rattle.deploy_plan.specs.declared.error.PlanError.TheVariants.{Failed};
-ghost use Rattle.deploy_plan.specs.Refusals.{IsPlanRefusal};
+ghost use Rattle.deploy_plan.specs.Refusals.{IsPlanRefusal, NoRefusal};
 ghost use Rattle.deploy_plan.specs.Plans.{CanDeploy, DeployPlan};
 ghost use Rattle.deploy_plan.specs.Sources.{AreFrom, AreSources, wins_of};
 ghost use Rattle.deploy_plan.specs.Told.{AreGoodWins, win_seen};
@@ -90,6 +90,9 @@ pub fn make_plan<T: Tree>(
         (wins_of scans.now sources.now wins.now) }
     ensures planned { T.tells →
         IfOk result (DeployPlan (disk_of (T.story tree.old)) old.now
+        (wins_of scans.now sources.now wins.now)) }
+    ensures passes { T.tells →
+        OnOk result (NoRefusal (disk_of (T.story tree.old)) old.now.rows
         (wins_of scans.now sources.now wins.now)) }
     ensures sound { T.tells → IfOk result (SoundPlan (disk_of (T.story tree.old))) }
     ensures leads { T.tells →

@@ -1,6 +1,6 @@
 -- Whether nothing is left of the entries of an own folder.
 use Rattle.std.proofs.Common.{◌≡◌, ◌≢◌, ℕ, ◌==◌, Bool, true, false, not, ◌&&◌, nat_eq, nat_le, length, List, [], ◌∷◌, map, refl, sym, ap, ◌∙◌, subst}
-use Rattle.std.specs.List.{Contains, list_all}
+use Rattle.std.specs.List.{AllByRecursion, Contains, list_all}
 use Rattle.std.specs.Str.{bytes_eq}
 use Rattle.std.proofs.lemmas.List.Elements.{All-from_recursion}
 use Rattle.list_laws.proofs.Alls.{all_weaken, all_item, all_from_contains, all-from_test}
@@ -12,15 +12,16 @@ use Rattle.tree_fs.specs.declared.name.Entry.{Entry}
 use Rattle.tree_fs.specs.EntryName.{IsName}
 use Rattle.tree_fs.specs.Spot.{Spot, below}
 use Rattle.tree_fs.specs.Places.{game_spot}
-use Rattle.tree_fs.specs.Disk.{Disk, kind_of}
+use Rattle.tree_fs.specs.Disk.{Disk, none, file, IsFile, IsValid, kind_of}
 use Rattle.tree_fs.specs.Calls.{IsFolder}
 use Rattle.tree_fs.specs.Listing.{IsEntry, IsListing}
 use Rattle.tree_fs.proofs.Spots.{same_spot}
-use Rattle.tree_fs.proofs.Below.{below-entry}
+use Rattle.tree_fs.proofs.Below.{below-entry, above_value}
 use Rattle.move_plan.specs.declared.plan.Plan.{Plan}
 use Rattle.plan_model.specs.Folders.{GoesOff}
 use Rattle.winner_table.specs.Folders.{IsFolderOf}
 use Rattle.plan_lists.specs.Off.{text_in, LeavesNothing, AllLeave, EntryGoes, absent, given_up, folder, GoesByOwn, AreOffBelow}
+use Rattle.plan_lists.proofs.Lies.{extends-lies}
 
 last_true : (a b c d e : Bool) → (a && b && c && d && e) ≡ true → e ≡ true
 last_true true true true true e h = h
@@ -101,3 +102,9 @@ module _ (a : Disk) (own files emptied off : List (List ℕ)) (plan : Plan) (pat
         all_from_contains (λ (e : Entry). LeavesNothing emptied off e.kind (text_in path e.name)) entries
         (λ e c. let is = all_item (IsEntry a (game_spot path)) entries e listing.each c in
         entry_leaves e.name e.kind is.0 is.1 is.2 ((by.goes path among alone is_there).1 goes e.name))
+
+-- a folder is there where one of these files lies below it
+pub folder_above_file : (a : Disk) → IsValid a → (paths : List (List ℕ)) → AllByRecursion (λ p. IsFile a (game_spot p)) paths → (path : List ℕ) → IsFolderOf paths path → a.folders (game_spot path) ≡ true
+folder_above_file a valid paths stood path h =
+    let f = all_item (λ p. IsFile a (game_spot p)) paths h.below stood h.among in
+    above_value a valid (game_spot path) (game_spot h.below) (extends-lies path h.below h.extending) (λ e. let no : file f.0 ≡ none = sym f.1 ∙ e in cc)

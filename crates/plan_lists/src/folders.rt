@@ -3,7 +3,9 @@ ghost use Rattle.std.specs.Prelude.{◌↔◌, ◌≡◌, IsTrue, IfOk, OnOk, �
 ghost use Rattle.std.specs.List.{AllByRecursion, Contains};
 ghost use Rattle.manifest_json.specs.Paths.{AreRising};
 ghost use Rattle.tree_fs.specs.Calls.{HasCause};
+ghost use Rattle.tree_fs.specs.Disk.{IsFile};
 ghost use Rattle.tree_fs.specs.Places.{game_spot};
+ghost use Rattle.tree_fs.specs.Spot.{spot_of};
 ghost use Rattle.tree_fs.specs.Story.{disk_of};
 ghost use Rattle.move_plan.specs.declared.plan.Plan.{Plan};
 ghost use Rattle.winner_table.specs.Folders.{IsFolderOf};
@@ -73,6 +75,43 @@ fn entries_leave(
     Ok(true)
 }
 
+// Whether a folder is there.
+fn is_folder<T: Tree>(tree: &mut T, place: &Place) -> Result<bool, TreeError>
+    ensures answer { T.tells →
+        IfOk result (λ yes. yes ≡ (disk_of (T.story tree.old)).folders (spot_of place.now)) }
+    ensures same { T.tells → T.story tree.new ≡ T.story tree.old }
+    ensures cause { HasCause (T.faults tree.old) (T.faults tree.new) result }
+{
+    match tree.kind(place)? {
+        Kind::Folder => Ok(true),
+        Kind::Absent | Kind::File | Kind::Other => Ok(false),
+    }
+}
+
+// The same of an own folder, at its place. It isn't looked at where one of these files, which were
+// found before, lies below it.
+fn is_there<T: Tree>(
+    alloc: Global,
+    tree: &mut T,
+    folder: &RelPath,
+    place: &Place,
+    emptied: &[RelPath],
+) -> Result<bool, TreeError>
+    requires place { spot_of place.now ≡ game_spot folder.now }
+    requires emptied { AreRising emptied.now }
+    requires stood { T.tells →
+        AllByRecursion (λ p. IsFile (disk_of (T.story tree.old)) (game_spot p)) emptied.now }
+    ensures answer { T.tells →
+        IfOk result (λ yes. yes ≡ (disk_of (T.story tree.old)).folders (game_spot folder.now)) }
+    ensures same { T.tells → T.story tree.new ≡ T.story tree.old }
+    ensures cause { HasCause (T.faults tree.old) (T.faults tree.new) result }
+{
+    if has_below(alloc, emptied, folder)? {
+        return Ok(true);
+    }
+    is_folder(tree, place)
+}
+
 // The fate of an own folder that none of the files lies below, where those of the folders below it
 // that go are known.
 fn looked_fate<T: Tree>(
@@ -83,6 +122,8 @@ fn looked_fate<T: Tree>(
     off: &[RelPath],
 ) -> Result<Fate, TreeError>
     requires emptied { AreRising emptied.now }
+    requires stood { T.tells →
+        AllByRecursion (λ p. IsFile (disk_of (T.story tree.old)) (game_spot p)) emptied.now }
     requires off { AreFalling off.now }
     ensures answer { T.tells →
         let a = disk_of (T.story tree.old) in
@@ -95,7 +136,7 @@ fn looked_fate<T: Tree>(
     ensures cause { HasCause (T.faults tree.old) (T.faults tree.new) result }
 {
     let place = Place::game(alloc, folder)?;
-    if tree.kind(&place)? != Kind::Folder {
+    if !is_there(alloc, tree, folder, &place, emptied)? {
         return Ok(Fate::Gone);
     }
     let entries = tree.list(&place)?;
@@ -117,6 +158,8 @@ fn fate_of<T: Tree, P: Pathed>(
 ) -> Result<Fate, TreeError>
     requires files { AreRising (map P.path files.now) }
     requires emptied { AreRising emptied.now }
+    requires stood { T.tells →
+        AllByRecursion (λ p. IsFile (disk_of (T.story tree.old)) (game_spot p)) emptied.now }
     requires off { AreFalling off.now }
     ensures answer { T.tells →
         let a = disk_of (T.story tree.old) in
@@ -150,8 +193,9 @@ impl OwnFolders {
 }
 
 /// What becomes of the own folders. `files` are paths at which there is a file in the end: a folder
-/// above one stays. Of each other it is looked at the entries: it goes where each of them is at one
-/// of the paths `emptied`, at which there is no file in the end, or is a folder that goes.
+/// above one stays. Each other is listed: it goes where each of its entries is at one of the paths
+/// `emptied`, at which there is a file now and none in the end, or is a folder that goes. It is
+/// looked whether it is there only where none of these paths lies below it.
 pub fn own_folders<T: Tree, P: Pathed>(
     alloc: Global,
     tree: &mut T,
@@ -162,6 +206,8 @@ pub fn own_folders<T: Tree, P: Pathed>(
     requires own { AreRising own.now }
     requires files { AreRising (map P.path files.now) }
     requires emptied { AreRising emptied.now }
+    requires stood { T.tells →
+        AllByRecursion (λ p. IsFile (disk_of (T.story tree.old)) (game_spot p)) emptied.now }
     ensures answer { T.tells →
         let a = disk_of (T.story tree.old) in
         (plan : Plan) → GoesByOwn a own.now (map P.path files.now) emptied.now plan

@@ -13,7 +13,7 @@ use Rattle.tree_fs.specs.Places.{game_spot}
 use Rattle.tree_fs.specs.Disk.{Disk, Value, none, kind_of}
 use Rattle.tree_fs.specs.Calls.{IsFolder}
 use Rattle.tree_fs.proofs.Below.{below-entry}
-use Rattle.tree_fs.proofs.KindOf.{kind-absent, kind-folder, folder-kind, absent-kind}
+use Rattle.tree_fs.proofs.KindOf.{kind-absent, kind-file, kind-folder, folder-kind, absent-kind}
 use Rattle.manifest_json.specs.declared.manifest.Row.{Row}
 use Rattle.manifest_json.specs.declared.manifest.Manifest.{Manifest}
 use Rattle.move_plan.specs.declared.plan.Plan.{Plan}
@@ -29,7 +29,7 @@ use Rattle.plan_model.proofs.GoesBy.{goes_entries, entries_goes}
 use Rattle.plan_model.proofs.Moved.{moved-clear, moved-else}
 use Rattle.plan_model.proofs.Paths.{above_backup}
 use Rattle.plan_model.proofs.Rows.{below-extends}
-use Rattle.plan_model.proofs.Values.{HasFile, file_some}
+use Rattle.plan_model.proofs.Values.{HasFile, file_some, has_file}
 use Rattle.winner_table.specs.Folders.{IsFolderOf}
 use Rattle.plan_lists.specs.Off.{EntryGoes, absent, given_up, folder, GoesByOwn}
 use Rattle.plan_lists.proofs.Leaving.{placed}
@@ -40,12 +40,21 @@ use Rattle.purge_run.proofs.Held.{hold_none, game_unsaved}
 use Rattle.purge_run.proofs.Gets.{only_own_goes}
 use Rattle.purge_run.proofs.Here.{restored_now, emptied_now}
 use Rattle.purge_run.proofs.Made.{made-missing}
+use Rattle.purge_run.proofs.Premises.{row_place}
 
--- the game place of a row whose original is kept, or isn't
-pub record RowAt (a : Disk) (rows : List Row) (kept : Bool) (x : Spot) : Type 0 where
+-- the game place of a row whose original is kept
+pub record RestoredAt (a : Disk) (rows : List Row) (x : Spot) : Type 0 where
   pub row : Row
   pub listed : Contains rows row
-  pub original : has_original a row ≡ kept
+  pub original : has_original a row ≡ true
+  pub here : game_spot row.path ≡ x
+
+-- that of a row whose original isn't, where there is a file
+pub record EmptiedAt (a : Disk) (rows : List Row) (x : Spot) : Type 0 where
+  pub row : Row
+  pub listed : Contains rows row
+  pub original : has_original a row ≡ false
+  pub stood : HasFile (a.now (game_spot row.path))
   pub here : game_spot row.path ≡ x
 
 module _ (a : Disk) (old : Manifest) (n : ℕ) (can : CanPurge a old n) (plan : Plan) (laid : LaidOut (purge_moves a old.rows n) plan) where
@@ -73,8 +82,8 @@ module _ (a : Disk) (old : Manifest) (n : ℕ) (can : CanPurge a old n) (plan : 
       by_row None e = by_clear (is_one_of plan.clears (in_game p)) e refl
       by_row (Some r) e = let f = row-some old.rows p r e in at_row r f.0 (ap in_game f.1)
 
-  module _ (restored emptied : List (List ℕ)) (restored_is : (x : Spot) → Contains (map game_spot restored) x ↔ RowAt a old.rows true x)
-      (emptied_is : (x : Spot) → Contains (map game_spot emptied) x ↔ RowAt a old.rows false x) where
+  module _ (restored emptied : List (List ℕ)) (restored_is : (x : Spot) → Contains (map game_spot restored) x ↔ RestoredAt a old.rows x)
+      (emptied_is : (x : Spot) → Contains (map game_spot emptied) x ↔ EmptiedAt a old.rows x) where
     restored_below : (path : List ℕ) (r : Row) → Contains old.rows r → has_original a r ≡ true → IsBelow (game_spot path) (game_spot r.path) → IsFolderOf restored path
     restored_below path r c o b = record {
       below = r.path;
@@ -131,12 +140,18 @@ module _ (a : Disk) (old : Manifest) (n : ℕ) (can : CanPurge a old n) (plan : 
               unfold_kind true f free = no_folder (folder-kind a (at name) f)
               unfold_kind false f free = some (absent-kind a (at name) f free)
 
+              row_stood : (r : Row) → Contains old.rows r → game_spot r.path ≡ at name → HasFile (a.now (game_spot r.path))
+              row_stood r c here = elim (row_place a old.rows can.passes.unblocked r c) [
+                | inl gone ↦ absurd (some (ap (kind_of a) (sym here) ∙ gone))
+                | inr is ↦ has_file a (game_spot r.path) (kind-file a (game_spot r.path) is).1
+              ]
+
               by_acts : Acts (at name) → EntryGoes a old.folders emptied plan (at name)
               by_acts (frees f n) =
                   absurd (alone (restored_below path f.row (row-some old.rows (names_of f.row.path) f.row f.at).0 f.original
                   (above_backup (game_spot path) f.row.path (subst (IsBelow (game_spot path)) (sym f.here) (below-entry (game_spot path) name)))))
               by_acts (at_row r c here) =
-                  given_up some no_folder ((emptied_is (at name)).1 (record { row = r; listed = c; original = off_row name r c here (has_original a r) refl; here = here }))
+                  given_up some no_folder ((emptied_is (at name)).1 (record { row = r; listed = c; original = off_row name r c here (has_original a r) refl; stood = row_stood r c here; here = here }))
               by_acts (stays is) = absurd (unfold_kind (a.folders (at name)) refl (sym is ∙ e.no_value name))
 
           by_kind : (k : Kind) → kind_of a (at name) ≡ k → EntryGoes a old.folders emptied plan (at name)

@@ -85,11 +85,21 @@ aside_by n r Bare = None
 abbrev pub told_aside : ℕ → Told → Option (List (List ℕ))
 told_aside n t = aside_by n t.row t.at
 
--- where the original comes; where no file is left; where the original leaves
-abbrev pub place_by : Which → Row → Bool → Option Spot
-place_by Restored r kept = if kept then Some (game_spot r.path) else None
-place_by Emptied r kept = if kept then None else Some (game_spot r.path)
-place_by Backups r kept = original_at r kept
+-- whether a file stands at the path
+abbrev pub stands : At → Bool
+stands Linked = true
+stands Over = true
+stands Bare = false
+
+abbrev pub emptied_by : Row → Bool → Option Spot
+emptied_by r true = Some (game_spot r.path)
+emptied_by r false = None
+
+-- where the original comes; where there is a file, and none is left; where the original leaves
+abbrev pub place_by : Which → Row → At → Bool → Option Spot
+place_by Restored r at kept = if kept then Some (game_spot r.path) else None
+place_by Emptied r at kept = if kept then None else emptied_by r (stands at)
+place_by Backups r at kept = original_at r kept
 
 abbrev pub told_place : Which → Told → Option Spot
-told_place which t = place_by which t.row t.kept
+told_place which t = place_by which t.row t.at t.kept

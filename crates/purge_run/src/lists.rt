@@ -9,7 +9,7 @@ ghost use Rattle.manifest_json.specs.Sound.{IsRow};
 ghost use Rattle.plan_model.specs.Lists.{spotted, ends_of};
 ghost use Rattle.plan_lists.specs.Order.{HasSameSpots};
 ghost use Rattle.purge_run.specs.Holds.{aside_at};
-ghost use Rattle.purge_run.specs.Told.{case_seen, told_set, told_save, told_aside, told_place, original_at};
+ghost use Rattle.purge_run.specs.Told.{case_seen, told_set, told_save, told_aside, told_place, original_at, stands, emptied_by};
 
 use crate::cases::{At, RowCase};
 use backup_keep::aside_place;
@@ -168,10 +168,32 @@ pub(crate) fn aside_paths(
 pub(crate) enum Which {
     /// Those where the original comes.
     Restored,
-    /// Those where no file is left.
+    /// Those where there is a file, and none is left.
     Emptied,
     /// The backups that originals leave.
     Backups,
+}
+
+// Whether a file stands at the path of a row.
+fn stands(at: At) -> bool
+    ensures { result ≡ stands at }
+{
+    match at {
+        At::Linked | At::Over => true,
+        At::Bare => false,
+    }
+}
+
+// The path of a row without an original, where a file stands there.
+fn emptied_path(case: RowCase) -> Result<Option<RelPath>, AllocError>
+    ensures { IfOk result (λ path.
+        option_map game_spot path ≡ emptied_by case.entry.row.now (stands case.entry.at)) }
+{
+    if stands(case.at) {
+        Ok(Some(case.row.path.copy()?))
+    } else {
+        Ok(None)
+    }
 }
 
 fn path_of(alloc: Global, which: Which, case: RowCase) -> Result<Option<RelPath>, AllocError>
@@ -183,7 +205,7 @@ fn path_of(alloc: Global, which: Which, case: RowCase) -> Result<Option<RelPath>
         (Which::Restored, true) => Ok(Some(case.row.path.copy()?)),
         (Which::Restored, false) => Ok(None),
         (Which::Emptied, true) => Ok(None),
-        (Which::Emptied, false) => Ok(Some(case.row.path.copy()?)),
+        (Which::Emptied, false) => emptied_path(case),
         (Which::Backups, true) => Ok(Some(case.row.path.backup_name(alloc)?)),
         (Which::Backups, false) => Ok(None),
     }

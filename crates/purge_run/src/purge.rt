@@ -28,7 +28,8 @@ use tree_fs::Tree;
 /// For each row it looks at its path, then, where a file stands there, at its staged place and
 /// whether both name one file, and then, where the row is shadowed, at its backup place. It looks
 /// at `keep/aside` only where a file is to be set aside. It lists each own folder below which no
-/// original comes back. It writes nothing.
+/// original comes back, and looks whether it is there where no row's file was found below it. It
+/// writes nothing.
 pub fn purge_plan<T: Tree>(alloc: Global, tree: &mut T, old: &Manifest) -> Result<Plan, PurgeError>
     ensures planned { T.tells → IfOk result (IsPurgePlan (disk_of (T.story tree.old)) old.now) }
     ensures passes { T.tells →

@@ -3,7 +3,7 @@ use Rattle.std.specs.List.{AllByRecursion, Contains}
 use Rattle.list_laws.proofs.Alls.{all_among, all_from_contains, all_item, all_unmap}
 use Rattle.rel_paths.specs.Names.{IsFreePath}
 use Rattle.tree_fs.specs.declared.place.Place.{Place}
-use Rattle.tree_fs.specs.Disk.{Disk}
+use Rattle.tree_fs.specs.Disk.{Disk, IsFile}
 use Rattle.tree_fs.specs.Spot.{spot_of}
 use Rattle.tree_fs.specs.Places.{game_spot}
 use Rattle.tree_fs.specs.Story.{disk_of}
@@ -22,6 +22,7 @@ use Rattle.plan_lists.specs.Order.{HasSameSpots}
 use Rattle.plan_lists.specs.Off.{GoesByOwn, AreParted}
 use Rattle.deploy_plan.specs.Told.{HasStaged, case_seen, step_win, told, told_win_of, told_path, told_set, told_save, told_clear, told_emptied, told_row, won_path, win_seen}
 use Rattle.deploy_plan.proofs.Composed.{AreLists, planned}
+use Rattle.deploy_plan.proofs.FoldersTied.{emptied_stand}
 use Rattle.deploy_plan.proofs.GoodRows.{all_staged, gathered_same, good_rows, wins_walked}
 use Rattle.deploy_plan.proofs.NewRows.{rows_told}
 use Rattle.plan_lists.proofs.Ordered.{same_spots}
@@ -32,6 +33,15 @@ use Rattle.deploy_plan.proofs.plan.plan_of.Goals as goal
 
 pub own_folders-requires-clause-files : goal.own_folders-requires-clause-files
 own_folders-requires-clause-files g c = subst paths.AreRising (map_map (λ (w : Win). w.path) win_seen c.args.wins.now) c.requires.wins.rise
+
+pub own_folders-requires-clause-stood : goal.own_folders-requires-clause-stood
+own_folders-requires-clause-stood g c tells =
+    let a = disk_of (g.T.Tree.story c.args.tree.now) in
+    let emptied = c.in_ok-emptied.emptied.items in
+    let same =
+    subst (HasSameSpots (map game_spot emptied)) (c.in_ok-emptied_paths.ensures ∙ ap (filter_map told_emptied) (c.requires.cases tells))
+    (same_spots c.in_ok-emptied_paths.field-0.items emptied c.in_ok-emptied.ensures.same) in
+    subst (AllByRecursion (λ p. IsFile a (game_spot p))) (sym c.deref-2.ensures.value) (emptied_stand a c.args.old.now (map win_seen c.args.wins.now) (c.requires.can tells) emptied same)
 
 pub own_after-requires-clause-kept : goal.own_after-requires-clause-kept
 own_after-requires-clause-kept g c =

@@ -1,6 +1,7 @@
 use Rattle.std.proofs.Common.{◌≡◌, ◌≤◌, ◌+◌, ◌-◌, ◌<◌, ℕ, List, [], length, map, drop, arith, sym, ◌∙◌, subst, refl, rules}
 use Rattle.std.proofs.lemmas.List.{drop_all}
-use Rattle.std.specs.List.{Contains}
+use Rattle.std.specs.List.{AllByRecursion, Contains}
+use Rattle.tree_fs.specs.Disk.{IsFile}
 use Rattle.tree_fs.specs.Places.{game_spot}
 use Rattle.tree_fs.specs.Story.{disk_of}
 use Rattle.plan_lists.specs.Search.{AreFalling}
@@ -31,6 +32,10 @@ loop-index-init g c =
 
 pub fate_of-requires-clause-off : goal.fate_of-requires-clause-off
 fate_of-requires-clause-off g c = subst AreFalling (sym c.as_slice.ensures.value) c.loop-index.invariant.falling
+
+pub fate_of-requires-clause-stood : goal.fate_of-requires-clause-stood
+fate_of-requires-clause-stood g c told =
+    subst (λ s. AllByRecursion (λ p. IsFile (disk_of s) (game_spot p)) c.args.emptied.now) (sym (c.loop-index.invariant.same told)) (c.requires.stood told)
 
 pub loop-index-preserved : goal.loop-index-preserved
 loop-index-preserved g c =

@@ -1,7 +1,7 @@
 use Rattle.std.proofs.Common.{◌≡◌, None, [], map, filter_map, refl, sym, ap, ◌∙◌, subst}
 use Rattle.std.specs.List.{AllByRecursion, Contains}
 use Rattle.list_laws.proofs.Containing.{contains_none, map_contains}
-use Rattle.tree_fs.specs.Disk.{Disk}
+use Rattle.tree_fs.specs.Disk.{Disk, IsFile}
 use Rattle.tree_fs.specs.Spot.{spot_of}
 use Rattle.tree_fs.specs.Places.{game_spot}
 use Rattle.tree_fs.specs.Story.{disk_of}
@@ -20,12 +20,20 @@ use Rattle.purge_run.specs.MadeFolders.{AreAsideFolders}
 use Rattle.purge_run.specs.Told.{case_seen, told, told_set, told_save, told_aside, told_place}
 use Rattle.purge_run.specs.Walk.{purge_clears}
 use Rattle.purge_run.proofs.Composed.{AreLists, planned, nothing_in, map_none}
-use Rattle.purge_run.proofs.Passed.{sets_told, saves_told, clears_told}
+use Rattle.purge_run.proofs.Passed.{emptied_stand, sets_told, saves_told, clears_told}
 use Rattle.purge_run.proofs.plan.plan_of.Goals as goal
 
 pub own_folders-requires-clause-files : goal.own_folders-requires-clause-files
 own_folders-requires-clause-files g c =
     subst paths.AreRising (sym (map_itself c.as_slice-2.result.now ∙ c.as_slice-2.ensures.value)) c.in_ok-restored.ensures.rise
+
+pub own_folders-requires-clause-stood : goal.own_folders-requires-clause-stood
+own_folders-requires-clause-stood g c tells =
+    let a = disk_of (g.T.Tree.story c.args.tree.now) in
+    let rows = c.args.old.now.rows in
+    let emptied = c.in_ok-emptied.emptied.items in
+    let same = subst (λ l. HasSameSpots (map game_spot emptied) (filter_map (told_place Emptied) l)) (c.requires.cases tells) c.in_ok-emptied.ensures.same in
+    subst (AllByRecursion (λ p. IsFile a (game_spot p))) (sym c.deref-2.ensures.value) (emptied_stand a rows emptied same)
 
 pub returns-clause-planned : goal.returns-clause-planned
 returns-clause-planned g c tells =
