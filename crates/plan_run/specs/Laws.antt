@@ -40,7 +40,8 @@ SweptIsQuiet =
 abbrev pub SweptIsOpen : Type 0
 SweptIsOpen =
     (a e : Disk) → Sweeps a e → NoTemps e
-    → (which : Control) → IsFileOrAbsent a (control_spot which) → IsFileOrAbsent e (control_spot which)
+    → (which : Control) → IsFileOrAbsent a (control_spot which)
+    → IsFileOrAbsent e (control_spot which)
 
 -- each step keeps the invariant of a history, and the game folder without mods
 abbrev pub SweepsKeep : Type 0

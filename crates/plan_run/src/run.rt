@@ -43,8 +43,8 @@ fn ready_for(alloc: Global, plan: Plan, most: u64) -> Result<Ready, RunError>
 /// again such a disk. Recovery of each disk that a stop leaves leads to the old desk or to that of
 /// the plan, and so it does after an error; the game folder without mods stays all along. `TooLong`
 /// comes before the first step, and so does `Unsound`, which never comes of a sound plan;
-/// `SourceGone` and `Blocked` don't come either. A folder in which something changes is synced at most
-/// four times, and there are at most five syncs more.
+/// `SourceGone` and `Blocked` don't come either. A folder in which something changes is synced at
+/// most four times, and there are at most five syncs more.
 pub fn carry_out<T: Tree>(
     alloc: Global,
     tree: &mut T,

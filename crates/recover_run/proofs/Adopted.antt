@@ -1,5 +1,5 @@
 -- The intent that is found is settled, and what its form leaves to do may begin.
-use Rattle.std.proofs.Common.{◌≡◌, ◌≤◌, refl, sym, ap, ◌∙◌, inl, inr, subst}
+use Rattle.std.proofs.Common.{◌≡◌, refl, sym, ap, ◌∙◌, inl, inr, subst}
 use Rattle.std.specs.declared.option.Option.TheVariants.{None, Some}
 use Rattle.rel_paths.specs.declared.control.Control.TheVariants as control
 use Rattle.tree_fs.specs.declared.place.Root.TheVariants.{Keep}
@@ -29,10 +29,8 @@ use Rattle.intent_journal.specs.Found.{IsThere}
 use Rattle.intent_journal.specs.Temps.{temp_spot, IsFileOrAbsent}
 use Rattle.intent_journal.proofs.Finding.{guard_is, syncs_stand}
 use Rattle.plan_exec.specs.Ending.{HasForms, NoTemps}
-use Rattle.plan_exec.specs.Middle.{MidWhileSet}
 use Rattle.plan_exec.specs.Steps.{StandsAlone, ToOutcomeOf}
 use Rattle.plan_exec.proofs.Forms.{carries_leads}
-use Rattle.plan_exec.proofs.Middle.{while_mid}
 use Rattle.plan_exec.proofs.OneList.{set_alone, clear_alone}
 use Rattle.recover_run.specs.Recovery.{IsFormReady, IsSwept}
 

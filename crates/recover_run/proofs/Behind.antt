@@ -1,22 +1,20 @@
 -- Behind the barrier: what is told of its end is told of the start.
-use Rattle.std.proofs.Common.{◌≡◌, refl, sym, ap, ◌∙◌, inl, inr, subst, ℕ, true, false, Bool, [], Result, OnOk}
+use Rattle.std.proofs.Common.{◌≡◌, refl, sym, ◌∙◌, inl, inr, subst, ℕ, true, [], Result, OnOk}
 use Rattle.std.specs.Prelude.{IfErr}
 use Rattle.std.specs.declared.result.Result.TheVariants.{Ok, Err}
 use Rattle.fault_count.specs.Causes.{HasCause}
 use Rattle.fault_count.specs.Rose.{Rose}
 use Rattle.rel_paths.specs.declared.control.Control.TheVariants as control
 use Rattle.tree_fs.specs.declared.name.Kind.TheVariants.{Absent}
-use Rattle.tree_fs.specs.declared.place.Root.TheVariants.{Keep}
-use Rattle.tree_fs.specs.Spot.{Spot, root_spot, is_entry}
-use Rattle.tree_fs.specs.Disk.{Disk, none, IsSettled, IsValid, Image, kind_of}
+use Rattle.tree_fs.specs.Disk.{Disk, IsValid, Image, kind_of}
 use Rattle.tree_fs.specs.Story.{Story, disk_of, Along}
 use Rattle.tree_fs.proofs.Fewer.{image-fewer}
 use Rattle.tree_fs.proofs.KindOf.{kind-absent}
-use Rattle.tree_fs.proofs.Moments.{along_here, along_last, along_trans, along_unchanged, along_weaken}
+use Rattle.tree_fs.proofs.Moments.{along_here, along_unchanged, along_weaken}
 use Rattle.desk_model.specs.Desk.{desk, SameDesk}
 use Rattle.desk_model.specs.Outcome.{outcome, outcome_now}
 use Rattle.desk_model.specs.Places.{intent_spot, profile_spot, IsTemp}
-use Rattle.desk_model.specs.Standing.{Invariant, Standing}
+use Rattle.desk_model.specs.Standing.{Standing}
 use Rattle.desk_model.specs.Stops.{Leads}
 use Rattle.desk_model.proofs.Named.{image-outcome}
 use Rattle.desk_model.proofs.SameDesks.{same_itself, same_sym, same_trans}

@@ -23,7 +23,7 @@ use Rattle.recover_run.specs.declared.error.RecoverError.TheVariants.{BadIntent,
 use Rattle.recover_run.specs.Causes.{IsFault, of_intent}
 use Rattle.recover_run.specs.declared.recovered.Recovered.{Recovered}
 use Rattle.recover_run.specs.declared.recovered.Recovered.TheVariants.{Nothing, Finished}
-use Rattle.recover_run.specs.Recovery.{HasCounts, IsReason, Tells}
+use Rattle.recover_run.specs.Recovery.{IsReason, Tells}
 use Rattle.recover_run.proofs.Swept.{intent_kind}
 
 module _ (a e : Disk) (s : Sweeps a e) where

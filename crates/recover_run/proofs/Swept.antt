@@ -1,5 +1,5 @@
 -- What the barrier leaves as it was.
-use Rattle.std.proofs.Common.{◌≡◌, refl, sym, ap, ◌∙◌, inl, inr, subst, Result, OnOk}
+use Rattle.std.proofs.Common.{◌≡◌, refl, sym, ap, ◌∙◌, inl, inr, subst}
 use Rattle.std.specs.List.{Contains}
 use Rattle.rel_paths.specs.declared.control.Control.TheVariants as control
 use Rattle.tree_fs.specs.declared.place.Place.{Place}
@@ -26,11 +26,8 @@ use Rattle.intent_journal.specs.Forms.{CanChange}
 use Rattle.intent_journal.specs.Sweeps.{Sweeps}
 use Rattle.intent_journal.specs.Temps.{temp_spot, IsFileOrAbsent}
 use Rattle.intent_journal.proofs.Besides.{Off}
-use Rattle.intent_journal.proofs.LikeStops.{along_stands}
 use Rattle.intent_journal.proofs.OffPlaces.{temps-harmless}
 use Rattle.intent_journal.proofs.StandOff.{outcome_off}
-use Rattle.plan_exec.specs.Middle.{MidWhileSet}
-use Rattle.plan_exec.proofs.Middle.{while_mid}
 use Rattle.plan_exec.proofs.Rules.{free-not_temp, set_free, save_free}
 use Rattle.recover_run.specs.Recovery.{IsSwept}
 
