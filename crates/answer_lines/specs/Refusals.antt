@@ -36,8 +36,8 @@ pub record RefusalRow : Type 0 where
   pub name : List ℕ
   pub carried : List (List ℕ)
 
-abbrev pub row : ℕ → List ℕ → List (List ℕ) → RefusalRow
-row number name carried = record { number = number; name = name; carried = carried }
+abbrev pub refusal : ℕ → List ℕ → List (List ℕ) → RefusalRow
+refusal number name carried = record { number = number; name = name; carried = carried }
 
 -- the part of a manifest or list that a fault is about, counted from 0
 abbrev pub spot_text : Spot → List ℕ
@@ -46,88 +46,88 @@ spot_text (File i) = codes "file " ++ decimal i
 spot_text (of_folder i) = codes "folder " ++ decimal i
 
 abbrev pub profile_row : ProfileRefusal → RefusalRow
-profile_row ProfileNotToml = row 1 (codes "ProfileNotToml") []
-profile_row ProfileDeep = row 2 (codes "ProfileDeep") []
-profile_row ProfileFloat = row 3 (codes "ProfileFloat") []
-profile_row ProfileVersion = row 4 (codes "ProfileVersion") []
-profile_row (ProfileShape key) = row 5 (codes "ProfileShape") (key ∷ [])
-profile_row (SameMod id) = row 6 (codes "SameMod") (id ∷ [])
-profile_row (SameOverride path) = row 7 (codes "SameOverride") (path ∷ [])
-profile_row (BadPath text) = row 8 (codes "BadPath") (text ∷ [])
-profile_row (BadKind text) = row 9 (codes "BadKind") (text ∷ [])
-profile_row (TooManyMods count) = row 10 (codes "TooManyMods") (decimal count ∷ [])
-profile_row (TooLong place) = row 11 (codes "TooLong") (place_text place ∷ [])
-profile_row (BadRelease text) = row 46 (codes "BadRelease") (text ∷ [])
-profile_row (BadRange text) = row 47 (codes "BadRange") (text ∷ [])
-profile_row (SameType id) = row 50 (codes "SameType") (id ∷ [])
-profile_row (NoType text) = row 51 (codes "NoType") (text ∷ [])
+profile_row ProfileNotToml = refusal 1 (codes "ProfileNotToml") []
+profile_row ProfileDeep = refusal 2 (codes "ProfileDeep") []
+profile_row ProfileFloat = refusal 3 (codes "ProfileFloat") []
+profile_row ProfileVersion = refusal 4 (codes "ProfileVersion") []
+profile_row (ProfileShape key) = refusal 5 (codes "ProfileShape") (key ∷ [])
+profile_row (SameMod id) = refusal 6 (codes "SameMod") (id ∷ [])
+profile_row (SameOverride path) = refusal 7 (codes "SameOverride") (path ∷ [])
+profile_row (BadPath text) = refusal 8 (codes "BadPath") (text ∷ [])
+profile_row (BadKind text) = refusal 9 (codes "BadKind") (text ∷ [])
+profile_row (TooManyMods count) = refusal 10 (codes "TooManyMods") (decimal count ∷ [])
+profile_row (TooLong place) = refusal 11 (codes "TooLong") (place_text place ∷ [])
+profile_row (BadRelease text) = refusal 46 (codes "BadRelease") (text ∷ [])
+profile_row (BadRange text) = refusal 47 (codes "BadRange") (text ∷ [])
+profile_row (SameType id) = refusal 50 (codes "SameType") (id ∷ [])
+profile_row (NoType text) = refusal 51 (codes "NoType") (text ∷ [])
 
 abbrev pub edit_row : EditRefusal → RefusalRow
-edit_row (NoMod id) = row 12 (codes "NoMod") (id ∷ [])
-edit_row SameRule = row 13 (codes "SameRule") []
-edit_row NoRule = row 14 (codes "NoRule") []
-edit_row (NoOverride path) = row 15 (codes "NoOverride") (path ∷ [])
-edit_row (KeyTaken key) = row 48 (codes "KeyTaken") (key ∷ [])
-edit_row OldProfile = row 49 (codes "OldProfile") []
+edit_row (NoMod id) = refusal 12 (codes "NoMod") (id ∷ [])
+edit_row SameRule = refusal 13 (codes "SameRule") []
+edit_row NoRule = refusal 14 (codes "NoRule") []
+edit_row (NoOverride path) = refusal 15 (codes "NoOverride") (path ∷ [])
+edit_row (KeyTaken key) = refusal 48 (codes "KeyTaken") (key ∷ [])
+edit_row OldProfile = refusal 49 (codes "OldProfile") []
 
 abbrev pub rule_row : RuleRefusal → RefusalRow
-rule_row (Missing id needs) = row 16 (codes "Missing") (id ∷ needs ∷ [])
-rule_row (Conflict id other) = row 17 (codes "Conflict") (id ∷ other ∷ [])
-rule_row (Cycle ids) = row 18 (codes "Cycle") ids
+rule_row (Missing id needs) = refusal 16 (codes "Missing") (id ∷ needs ∷ [])
+rule_row (Conflict id other) = refusal 17 (codes "Conflict") (id ∷ other ∷ [])
+rule_row (Cycle ids) = refusal 18 (codes "Cycle") ids
 
 abbrev pub scan_row : ScanRefusal → RefusalRow
-scan_row (NoFolder id) = row 19 (codes "NoFolder") (id ∷ [])
-scan_row (OddEntry folder name) = row 20 (codes "OddEntry") (place_text folder ∷ name ∷ [])
-scan_row (BadEntry folder name) = row 21 (codes "BadEntry") (place_text folder ∷ name ∷ [])
-scan_row (Reserved place) = row 22 (codes "Reserved") (place_text place ∷ [])
-scan_row (TooManyEntries limit) = row 23 (codes "TooManyEntries") (decimal limit ∷ [])
-scan_row (FileAndFolder path) = row 24 (codes "FileAndFolder") (path ∷ [])
-scan_row (TargetLong id path) = row 52 (codes "TargetLong") (id ∷ path ∷ [])
-scan_row (TwoSpellings id path) = row 55 (codes "TwoSpellings") (id ∷ path ∷ [])
-scan_row (FoldReserved id path) = row 56 (codes "FoldReserved") (id ∷ path ∷ [])
+scan_row (NoFolder id) = refusal 19 (codes "NoFolder") (id ∷ [])
+scan_row (OddEntry folder name) = refusal 20 (codes "OddEntry") (place_text folder ∷ name ∷ [])
+scan_row (BadEntry folder name) = refusal 21 (codes "BadEntry") (place_text folder ∷ name ∷ [])
+scan_row (Reserved place) = refusal 22 (codes "Reserved") (place_text place ∷ [])
+scan_row (TooManyEntries limit) = refusal 23 (codes "TooManyEntries") (decimal limit ∷ [])
+scan_row (FileAndFolder path) = refusal 24 (codes "FileAndFolder") (path ∷ [])
+scan_row (TargetLong id path) = refusal 52 (codes "TargetLong") (id ∷ path ∷ [])
+scan_row (TwoSpellings id path) = refusal 55 (codes "TwoSpellings") (id ∷ path ∷ [])
+scan_row (FoldReserved id path) = refusal 56 (codes "FoldReserved") (id ∷ path ∷ [])
 
 abbrev pub manifest_row : ManifestRefusal → RefusalRow
-manifest_row ManifestNotJson = row 25 (codes "ManifestNotJson") []
-manifest_row ManifestVersion = row 26 (codes "ManifestVersion") []
-manifest_row (ManifestShape spot) = row 27 (codes "ManifestShape") (spot_text spot ∷ [])
-manifest_row (ManifestBadPath spot) = row 28 (codes "ManifestBadPath") (spot_text spot ∷ [])
-manifest_row (ManifestOrder spot) = row 29 (codes "ManifestOrder") (spot_text spot ∷ [])
-manifest_row (ManifestNested spot) = row 30 (codes "ManifestNested") (spot_text spot ∷ [])
-manifest_row (ManifestSource spot) = row 53 (codes "ManifestSource") (spot_text spot ∷ [])
+manifest_row ManifestNotJson = refusal 25 (codes "ManifestNotJson") []
+manifest_row ManifestVersion = refusal 26 (codes "ManifestVersion") []
+manifest_row (ManifestShape spot) = refusal 27 (codes "ManifestShape") (spot_text spot ∷ [])
+manifest_row (ManifestBadPath spot) = refusal 28 (codes "ManifestBadPath") (spot_text spot ∷ [])
+manifest_row (ManifestOrder spot) = refusal 29 (codes "ManifestOrder") (spot_text spot ∷ [])
+manifest_row (ManifestNested spot) = refusal 30 (codes "ManifestNested") (spot_text spot ∷ [])
+manifest_row (ManifestSource spot) = refusal 53 (codes "ManifestSource") (spot_text spot ∷ [])
 
 abbrev pub plan_row : PlanRefusal → RefusalRow
-plan_row (ChangesFound path count) = row 31 (codes "ChangesFound") (path ∷ decimal count ∷ [])
-plan_row (Turned path) = row 32 (codes "Turned") (path ∷ [])
-plan_row (Blocked place) = row 33 (codes "Blocked") (place_text place ∷ [])
-plan_row (BackupTaken path) = row 34 (codes "BackupTaken") (path ∷ [])
-plan_row AsideFull = row 35 (codes "AsideFull") []
-plan_row (PlanTooLong length) = row 36 (codes "PlanTooLong") (decimal length ∷ [])
+plan_row (ChangesFound path count) = refusal 31 (codes "ChangesFound") (path ∷ decimal count ∷ [])
+plan_row (Turned path) = refusal 32 (codes "Turned") (path ∷ [])
+plan_row (Blocked place) = refusal 33 (codes "Blocked") (place_text place ∷ [])
+plan_row (BackupTaken path) = refusal 34 (codes "BackupTaken") (path ∷ [])
+plan_row AsideFull = refusal 35 (codes "AsideFull") []
+plan_row (PlanTooLong length) = refusal 36 (codes "PlanTooLong") (decimal length ∷ [])
 
 abbrev pub recovery_row : RecoveryRefusal → RefusalRow
-recovery_row BadIntent = row 37 (codes "BadIntent") []
-recovery_row (SourceGone place) = row 38 (codes "SourceGone") (place_text place ∷ [])
-recovery_row CannotBack = row 54 (codes "CannotBack") []
+recovery_row BadIntent = refusal 37 (codes "BadIntent") []
+recovery_row (SourceGone place) = refusal 38 (codes "SourceGone") (place_text place ∷ [])
+recovery_row CannotBack = refusal 54 (codes "CannotBack") []
 
 abbrev pub input_row : InputRefusal → RefusalRow
-input_row (LineTooLong line) = row 39 (codes "LineTooLong") (decimal line ∷ [])
-input_row TooManyLines = row 40 (codes "TooManyLines") []
-input_row (BadLine line) = row 41 (codes "BadLine") (decimal line ∷ [])
-input_row (BadAnswer line) = row 42 (codes "BadAnswer") (decimal line ∷ [])
+input_row (LineTooLong line) = refusal 39 (codes "LineTooLong") (decimal line ∷ [])
+input_row TooManyLines = refusal 40 (codes "TooManyLines") []
+input_row (BadLine line) = refusal 41 (codes "BadLine") (decimal line ∷ [])
+input_row (BadAnswer line) = refusal 42 (codes "BadAnswer") (decimal line ∷ [])
 
 abbrev pub early_row : EarlyRefusal → RefusalRow
-early_row (Taken path) = row 43 (codes "Taken") (path ∷ [])
-early_row (Folder place) = row 44 (codes "Folder") (place_text place ∷ [])
-early_row NotBuilt = row 45 (codes "NotBuilt") []
+early_row (Taken path) = refusal 43 (codes "Taken") (path ∷ [])
+early_row (Folder place) = refusal 44 (codes "Folder") (place_text place ∷ [])
+early_row NotBuilt = refusal 45 (codes "NotBuilt") []
 
 abbrev pub named_row : NamedRefusal → RefusalRow
-named_row (NoName id) = row 57 (codes "NoName") (id ∷ [])
-named_row (NameTaken id) = row 58 (codes "NameTaken") (id ∷ [])
-named_row NoProfile = row 59 (codes "NoProfile") []
+named_row (NoName id) = refusal 57 (codes "NoName") (id ∷ [])
+named_row (NameTaken id) = refusal 58 (codes "NameTaken") (id ∷ [])
+named_row NoProfile = refusal 59 (codes "NoProfile") []
 
 abbrev pub foreign_row : ForeignRefusal → RefusalRow
-foreign_row ForeignLong = row 60 (codes "ForeignLong") []
-foreign_row ForeignNotJson = row 61 (codes "ForeignNotJson") []
-foreign_row (ForeignShape spot) = row 62 (codes "ForeignShape") (spot_text spot ∷ [])
+foreign_row ForeignLong = refusal 60 (codes "ForeignLong") []
+foreign_row ForeignNotJson = refusal 61 (codes "ForeignNotJson") []
+foreign_row (ForeignShape spot) = refusal 62 (codes "ForeignShape") (spot_text spot ∷ [])
 
 -- the row of a refusal
 abbrev pub row_of : Refusal → RefusalRow

@@ -5,7 +5,7 @@ use Rattle.tree_fs.specs.Texts.{place_text}
 use Rattle.answer_lines.specs.declared.rows.Carried.{Carried}
 use Rattle.answer_lines.specs.declared.rows.Carried.TheVariants.{Nothing, Text, Texts, Ids, Place, Entry, Number, Counted, Spot}
 use Rattle.answer_lines.specs.declared.rows.RowView.{RowView}
-use Rattle.answer_lines.specs.Refusals.{RefusalRow, row, spot_text}
+use Rattle.answer_lines.specs.Refusals.{RefusalRow, refusal, spot_text}
 
 -- the texts of the values
 abbrev pub texts_of : Carried → List (List ℕ)
@@ -20,4 +20,4 @@ texts_of (Counted text n) = text.now ∷ decimal n ∷ []
 texts_of (Spot spot) = spot_text spot ∷ []
 
 abbrev pub row_shown : RowView → RefusalRow
-row_shown r = row r.number r.name.now (texts_of r.carried)
+row_shown r = refusal r.number r.name.now (texts_of r.carried)

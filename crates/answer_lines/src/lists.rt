@@ -4,7 +4,9 @@ ghost use Rattle.std.specs.List.{AllByRecursion, flat_map};
 ghost use Rattle.std.specs.String.{string_bytes};
 ghost use Rattle.answer_lines.specs.Lines.{tabbed};
 ghost use Rattle.answer_lines.specs.Words.{by_word, why_word};
-ghost use Rattle.answer_lines.specs.Lists.{id_of, HasId, order_line, order_lines, winner_line, winner_lines, PathHasIds, path_line, PairHasIds, pair_line, HasIds, conflict_lines, change_line, change_lines};
+ghost use Rattle.answer_lines.specs.Lists.{id_of, HasId, order_line, order_lines, winner_line, winner_lines};
+ghost use Rattle.answer_lines.specs.Lists.{PathHasIds, path_line, PairHasIds, pair_line, HasIds, conflict_lines};
+ghost use Rattle.answer_lines.specs.Lists.{change_line, change_lines};
 
 use crate::values::{end_line, push_value};
 use change_detect::Change;

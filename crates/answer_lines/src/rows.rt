@@ -1,6 +1,8 @@
 // The table of refusals.
 ghost use Rattle.std.specs.Prelude.{◌≡◌};
-ghost use Rattle.answer_lines.specs.Refusals.{row as refusal_row, row_of, profile_row, edit_row, rule_row, scan_row, manifest_row, plan_row, recovery_row, input_row, early_row, named_row, foreign_row};
+ghost use Rattle.answer_lines.specs.Refusals.{refusal as refusal_row, row_of, profile_row, edit_row, rule_row, scan_row};
+ghost use Rattle.answer_lines.specs.Refusals.{manifest_row, plan_row, recovery_row, input_row, early_row, named_row};
+ghost use Rattle.answer_lines.specs.Refusals.{foreign_row};
 ghost use Rattle.answer_lines.specs.Shown.{texts_of, row_shown};
 
 use crate::{

@@ -1,13 +1,11 @@
 //! What differs from a deployment's row, what a settlement may do about it, and the choices of a
-//! settlement. Tests are in `tests`.
+//! settlement. Tests stand in the crate `value_tests`.
 #![tactic(auto)]
 
 mod action;
 mod choices;
 mod class;
 mod path_actions;
-#[cfg(test)]
-mod tests;
 
 pub use action::{Action, allowed};
 pub use choices::Choices;

@@ -1,4 +1,5 @@
 //! The edge of the program: where bytes come from, where they go, and the lines of what comes in.
+//! Tests stand in the crate `stream_tests`.
 #![tactic(auto)]
 
 mod error;
@@ -14,6 +15,3 @@ pub use mem::{MemSink, MemSource};
 pub use sink::{Sink, push_all};
 pub use source::Source;
 pub use std_io::{StdSink, StdSource};
-
-#[cfg(test)]
-mod tests;

@@ -1,5 +1,7 @@
 // The lines of what comes in.
-ghost use Rattle.std.specs.Prelude.{◌≡◌, ◌≢◌, ◌+◌, ◌<◌, ◌≤◌, ◌↔◌, ◌++◌, [], Bool, true, false, length, nat_lt, drop, position, if◌then◌else◌, vec_len, is_some, option_map, option_to_list, IsTrue, IfOk, IfSome, IfErr, OnOk, OnErr, IsErrOf, None, Some, Err, Ok};
+ghost use Rattle.std.specs.Prelude.{◌≡◌, ◌≢◌, ◌+◌, ◌<◌, ◌≤◌, ◌↔◌, ◌++◌, [], Bool, true, false, length, nat_lt, drop};
+ghost use Rattle.std.specs.Prelude.{position, if◌then◌else◌, vec_len, is_some, option_map, option_to_list, IsTrue};
+ghost use Rattle.std.specs.Prelude.{IfOk, IfSome, IfErr, OnOk, OnErr, IsErrOf, None, Some, Err, Ok};
 ghost use Rattle.std.specs.List.{position_or_len};
 ghost use Rattle.std.specs.Str.{is_utf8};
 ghost use Rattle.std.specs.String.{string_bytes};

@@ -1,0 +1,9 @@
+pub mod Tabs
+pub mod Words
+pub mod Searching
+pub mod Fitting
+pub mod Adding
+pub mod Reading
+pub mod Once
+pub mod Tabled
+pub mod Said
