@@ -1,9 +1,7 @@
 -- A destination of a settlement where nothing stood gets a file, so no made folder goes.
-use Rattle.std.proofs.Common.{◌≡◌, ◌≢◌, ℕ, Bool, true, false, if◌then◌else◌, List, refl, sym, ap, ◌∙◌, inl, inr, subst}
+use Rattle.std.proofs.Common.{◌≡◌, ℕ, Bool, true, false, List, refl, sym, ap, ◌∙◌, inl, inr, subst}
 use Rattle.std.specs.List.{Contains}
-use Rattle.std.specs.declared.option.Option.{Option}
 use Rattle.std.specs.declared.option.Option.TheVariants.{None, Some}
-use Rattle.tree_fs.specs.declared.name.Kind.TheVariants.{Absent, File}
 use Rattle.tree_fs.specs.declared.place.Root.TheVariants.{Game, Stage, Keep}
 use Rattle.tree_fs.specs.Spot.{Spot, IsBelow}
 use Rattle.tree_fs.specs.Places.{game_spot}
@@ -12,7 +10,7 @@ use Rattle.tree_fs.proofs.Below.{above_value}
 use Rattle.tree_fs.proofs.PlaceSpots.{game_spot-same}
 use Rattle.list_laws.proofs.Alls.{all_from_contains}
 use Rattle.rel_paths.specs.Names.{IsFreePath}
-use Rattle.backup_keep.specs.Places.{backup_spot, aside_spot}
+use Rattle.backup_keep.specs.Places.{backup_spot}
 use Rattle.manifest_json.specs.declared.manifest.Row.{Row}
 use Rattle.manifest_json.specs.declared.manifest.Manifest.{Manifest}
 use Rattle.manifest_json.specs.Sound.{AreFolders}
@@ -26,20 +24,19 @@ use Rattle.plan_model.specs.Rows.{has_original}
 use Rattle.plan_model.specs.Moves.{Move, Moves, LaidOut}
 use Rattle.plan_model.specs.Folders.{IsMade, IsOwnFolder, IsListed, GoesOff, OwnLaidOut}
 use Rattle.plan_model.proofs.Values.{HasFile, its_file, file_some}
-use Rattle.plan_model.proofs.Moved.{value_at, moved-set, set-moved, save-moved, moved-is_set, moved-is_save}
+use Rattle.plan_model.proofs.Moved.{set-moved, save-moved, moved-is_set, moved-is_save}
 use Rattle.plan_model.proofs.GoesBy.{only_own}
 use Rattle.plan_model.proofs.Paths.{above_path}
-use Rattle.plan_model.proofs.Rows.{folder_free, above_free, row_free}
-use Rattle.change_settle.specs.Deeds.{original_move, game_move, stage_move, saved_spot, settle_moves, Saves}
+use Rattle.plan_model.proofs.Rows.{folder_free, above_free}
+use Rattle.change_settle.specs.Deeds.{original_move, game_move, stage_move, settle_moves}
 use Rattle.change_settle.specs.Refusals.{restored_spot}
 use Rattle.change_settle.specs.Folders.{IsMissingFor}
 use Rattle.change_settle.specs.Plans.{CanSettle}
 use Rattle.change_settle.proofs.Premises.{told_at, free_path, kind_has_file}
 use Rattle.change_settle.proofs.Sets.{SetCase, at_game, at_stage, set_tells, game_set, stage_set}
 use Rattle.change_settle.proofs.RowPlaces.{RowPlace, in_game, in_mod}
-use Rattle.change_settle.proofs.Saved.{origin}
-use Rattle.change_settle.proofs.Stands.{original_file, Stands, at_row, at_aside, Why, filed, replaced, restored, stands, set_stands}
-use Rattle.change_settle.proofs.Kept.{here_by, users_unsaved, game_value, stage_value, staged_value}
+use Rattle.change_settle.proofs.Stands.{original_file, Stands, at_row, at_aside, filed, replaced, restored, stands}
+use Rattle.change_settle.proofs.Kept.{here_by, game_value, stage_value}
 
 module _ (choice : Choice) (a : Disk) (old : Manifest) (n : ℕ) (can : CanSettle choice a old n) (plan : Plan) (laid : LaidOut (settle_moves choice a old.rows n) plan) where
   abbrev m : Moves

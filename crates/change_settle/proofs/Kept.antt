@@ -1,10 +1,9 @@
 -- What the plan of a settlement makes of each place.
-use Rattle.std.proofs.Common.{◌≡◌, ◌≢◌, ◌⊎◌, ℕ, Bool, true, false, ◌&&◌, if◌then◌else◌, List, refl, sym, ap, ◌∙◌, inl, inr, subst}
+use Rattle.std.proofs.Common.{◌≡◌, ◌≢◌, ℕ, Bool, true, false, ◌&&◌, if◌then◌else◌, List, refl, sym, ap, ◌∙◌, subst}
 use Rattle.std.specs.List.{Contains}
 use Rattle.std.specs.declared.option.Option.{Option}
 use Rattle.std.specs.declared.option.Option.TheVariants.{None, Some}
-use Rattle.rel_paths.specs.Names.{names_of, backup_names, IsFreePath}
-use Rattle.rel_paths.proofs.Truths.{both}
+use Rattle.rel_paths.specs.Names.{names_of, IsFreePath}
 use Rattle.tree_fs.specs.declared.place.Root.TheVariants.{Stage, Game, Keep}
 use Rattle.tree_fs.specs.Spot.{Spot}
 use Rattle.tree_fs.specs.Places.{game_spot}
@@ -24,7 +23,7 @@ use Rattle.desk_model.specs.Settled.{value_at as settled_value}
 use Rattle.plan_model.specs.Rows.{has_original, from_backup, IsFileOrAbsent}
 use Rattle.plan_model.specs.Moves.{Move, Moves, LaidOut}
 use Rattle.plan_model.proofs.Values.{HasFile, its_file, no_file, is_none, file_or_absent-not_odd}
-use Rattle.plan_model.proofs.Moved.{value_at, moved-clear, moved-set, moved-save, moved-else}
+use Rattle.plan_model.proofs.Moved.{value_at, moved-clear, moved-set, moved-else}
 use Rattle.plan_model.proofs.Firsts.{row-here}
 use Rattle.plan_model.proofs.Paths.{good-not_backup}
 use Rattle.change_settle.specs.Deeds.{original_move, game_move, stage_move, cleared_spot, settle_moves, next_row}

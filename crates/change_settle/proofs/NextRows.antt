@@ -1,5 +1,5 @@
 -- The rows that a settlement leaves.
-use Rattle.std.proofs.Common.{◌≡◌, ℕ, Bool, true, false, List, [], ◌∷◌, map, filter_map, refl, sym, ap, ◌∙◌, subst}
+use Rattle.std.proofs.Common.{◌≡◌, ℕ, false, List, [], ◌∷◌, ◌++◌, map, filter_map, option_to_list, refl, sym, ap, ◌∙◌, subst}
 use Rattle.std.specs.List.{AllByRecursion, Contains, cons_option}
 use Rattle.std.specs.List.Sorted.{IsStrictlySortedBy}
 use Rattle.std.specs.Ordering.{nat_cmp}
@@ -20,13 +20,7 @@ use Rattle.desk_model.specs.Records.{row_at}
 use Rattle.desk_model.specs.Settled.{Choice, Deed, left_whole, put_aside, imported, reverted, accepted, linked_again, staged_again, let_go, dropped, deed_of, settled_row, some_rows}
 use Rattle.plan_model.proofs.Firsts.{row-some, row-here}
 use Rattle.change_settle.specs.Deeds.{next_row, next_rows}
-
--- a row keeps all but its digest
-pub record Renews (r made : Row) : Type 0 where
-  pub path : made.path ≡ r.path
-  pub mod_id : made.mod_id ≡ r.mod_id
-  pub source : made.source ≡ r.source
-  pub shadowed : made.shadowed ≡ r.shadowed
+use Rattle.change_settle.specs.Rows.{Renews, IsLeft, AreLeft}
 
 made_of : (r s made : Row) → Renews r s → Some s ≡ Some made → Renews r made
 made_of r s made h e = let is : s ≡ made = cc in subst (Renews r) is h
@@ -50,67 +44,83 @@ some_filtered f (r ∷ rows) = by_row (f r) (some_filtered f rows)
     by_row None e = e
     by_row (Some s) e = ap (λ l. s ∷ l) e
 
--- Rows that are renewed, or left out, can be those of a manifest still
-module _ (f : Row → Option Row) (same : (r made : Row) → f r ≡ Some made → Renews r made) where
-  paths_kept : (P : List ℕ → Type 0) (rows : List Row) → AllByRecursion P (paths_of rows) → AllByRecursion P (paths_of (filter_map f rows))
-  paths_kept P [] all = tt
-  paths_kept P (r ∷ rows) all = by_row (f r) refl (paths_kept P rows all.1)
-    where
-      by_row : (o : Option Row) → f r ≡ o → AllByRecursion P (paths_of (filter_map f rows)) → AllByRecursion P (paths_of (cons_option o (filter_map f rows)))
-      by_row None e rest = rest
-      by_row (Some made) e rest = (subst P (sym (same r made e).path) all.0, rest)
+-- Rows that are left of those of a manifest can be those of one still
 
-  rows_rise : (rows : List Row) → AreRising (paths_of rows) → AreRising (paths_of (filter_map f rows))
-  unfolding IsStrictlySortedBy
-  rows_rise [] rise = tt
-  rows_rise (r ∷ rows) rise = by_row (f r) refl (rows_rise rows rise.1)
-    where
-      by_row : (o : Option Row) → f r ≡ o → AreRising (paths_of (filter_map f rows)) → AreRising (paths_of (cons_option o (filter_map f rows)))
-      by_row None e rest = rest
-      by_row (Some made) e rest =
-          (paths_kept (λ q. slice_cmp nat_cmp made.path q ≡ Less) rows (subst (λ p. AllByRecursion (λ q. slice_cmp nat_cmp p q ≡ Less) (paths_of rows)) (sym (same r made e).path) rise.0), rest)
+pub left_from : (f : Row → Option Row) → ((r made : Row) → f r ≡ Some made → Renews r made) → (rows : List Row) → AreLeft rows (filter_map f rows)
+left_from f same [] = refl
+left_from f same (r ∷ rows) = (f r, filter_map f rows, by (f r) refl, refl, left_from f same rows)
+  where
+    by : (o : Option Row) → f r ≡ o → IsLeft r o
+    by None e = tt
+    by (Some made) e = same r made e
 
-  rows_flat : (rows : List Row) → AreFlat (paths_of rows) → AreFlat (paths_of (filter_map f rows))
-  rows_flat [] flat = tt
-  rows_flat (r ∷ rows) flat = by_row (f r) refl (rows_flat rows flat.1)
-    where
-      by_row : (o : Option Row) → f r ≡ o → AreFlat (paths_of (filter_map f rows)) → AreFlat (paths_of (cons_option o (filter_map f rows)))
-      by_row None e rest = rest
-      by_row (Some made) e rest =
-          (paths_kept (λ q. extends q made.path ≡ false) rows (subst (λ p. AllByRecursion (λ q. extends q p ≡ false) (paths_of rows)) (sym (same r made e).path) flat.0), rest)
+one_option : (o : Option Row) → option_to_list o ≡ cons_option o []
+one_option None = refl
+one_option (Some r) = refl
 
-  rows_good : (rows : List Row) → AllByRecursion IsRow rows → AllByRecursion IsRow (filter_map f rows)
-  rows_good [] good = tt
-  rows_good (r ∷ rows) good = by_row (f r) refl (rows_good rows good.1)
-    where
-      by_row : (o : Option Row) → f r ≡ o → AllByRecursion IsRow (filter_map f rows) → AllByRecursion IsRow (cons_option o (filter_map f rows))
-      by_row None e rest = rest
-      by_row (Some made) e rest =
-          let h = same r made e in
-          let is : IsRow r = good.0 in
-          (record { path = subst IsFreePath (sym h.path) is.path; mod_id = subst IsModId (sym h.mod_id) is.mod_id; source = subst IsFreePath (sym h.source) is.source }, rest)
+pushed_behind : (o p : Option Row) (rest : List Row) → cons_option o rest ++ option_to_list p ≡ cons_option o (rest ++ option_to_list p)
+pushed_behind None p rest = refl
+pushed_behind (Some r) p rest = refl
 
-  -- the sources of one row and of others
-  others_apart : (r made : Row) → Renews r made → (rows : List Row) → AllByRecursion (HaveApartSources r) rows → AllByRecursion (HaveApartSources made) (filter_map f rows)
-  others_apart r made h [] all = tt
-  others_apart r made h (s ∷ rows) all = by_row (f s) refl (others_apart r made h rows all.1)
-    where
-      by_row : (o : Option Row) → f s ≡ o → AllByRecursion (HaveApartSources made) (filter_map f rows) → AllByRecursion (HaveApartSources made) (cons_option o (filter_map f rows))
-      by_row None e rest = rest
-      by_row (Some other) e rest =
-          let k = same s other e in
-          (λ id. subst (λ t. AreApart t other.source) (sym h.source) (subst (AreApart r.source) (sym k.source) (all.0 (sym h.mod_id ∙ id ∙ k.mod_id))), rest)
+-- one row more
+pub left_more : (rows left : List Row) (r : Row) (o : Option Row) → AreLeft rows left → IsLeft r o → AreLeft (rows ++ r ∷ []) (left ++ option_to_list o)
+left_more [] left r o h is = (o, [], is, ap (λ l. l ++ option_to_list o) h ∙ one_option o, refl)
+left_more (q ∷ rows) left r o h is = (h.0, h.1 ++ option_to_list o, h.2, ap (λ l. l ++ option_to_list o) h.3 ∙ pushed_behind h.0 o h.1, left_more rows h.1 r o h.4 is)
 
-  sources_apart : (rows : List Row) → HasApartSources rows → HasApartSources (filter_map f rows)
-  sources_apart [] apart = tt
-  sources_apart (r ∷ rows) apart = by_row (f r) refl (sources_apart rows apart.1)
-    where
-      by_row : (o : Option Row) → f r ≡ o → HasApartSources (filter_map f rows) → HasApartSources (cons_option o (filter_map f rows))
-      by_row None e rest = rest
-      by_row (Some made) e rest = (others_apart r made (same r made e) rows apart.0, rest)
+left_paths : (P : List ℕ → Type 0) (rows left : List Row) → AreLeft rows left → AllByRecursion P (paths_of rows) → AllByRecursion P (paths_of left)
+left_paths P [] left h all = subst (λ l. AllByRecursion P (paths_of l)) (sym h) tt
+left_paths P (r ∷ rows) left h all = subst (λ l. AllByRecursion P (paths_of l)) (sym h.3) (by h.0 h.2 (left_paths P rows h.1 h.4 all.1))
+  where
+    by : (o : Option Row) → IsLeft r o → AllByRecursion P (paths_of h.1) → AllByRecursion P (paths_of (cons_option o h.1))
+    by None is rest = rest
+    by (Some made) is rest = (subst P (sym is.path) all.0, rest)
 
-  pub rows_kept : (rows : List Row) → AreRows rows → AreRows (filter_map f rows)
-  rows_kept rows kept = record { good = rows_good rows kept.good; rise = rows_rise rows kept.rise; flat = rows_flat rows kept.flat; apart = sources_apart rows kept.apart }
+left_rise : (rows left : List Row) → AreLeft rows left → AreRising (paths_of rows) → AreRising (paths_of left)
+unfolding IsStrictlySortedBy
+left_rise [] left h rise = subst (λ l. AreRising (paths_of l)) (sym h) tt
+left_rise (r ∷ rows) left h rise = subst (λ l. AreRising (paths_of l)) (sym h.3) (by h.0 h.2 (left_rise rows h.1 h.4 rise.1))
+  where
+    by : (o : Option Row) → IsLeft r o → AreRising (paths_of h.1) → AreRising (paths_of (cons_option o h.1))
+    by None is rest = rest
+    by (Some made) is rest = (left_paths (λ q. slice_cmp nat_cmp made.path q ≡ Less) rows h.1 h.4 (subst (λ p. AllByRecursion (λ q. slice_cmp nat_cmp p q ≡ Less) (paths_of rows)) (sym is.path) rise.0), rest)
+
+left_flat : (rows left : List Row) → AreLeft rows left → AreFlat (paths_of rows) → AreFlat (paths_of left)
+left_flat [] left h flat = subst (λ l. AreFlat (paths_of l)) (sym h) tt
+left_flat (r ∷ rows) left h flat = subst (λ l. AreFlat (paths_of l)) (sym h.3) (by h.0 h.2 (left_flat rows h.1 h.4 flat.1))
+  where
+    by : (o : Option Row) → IsLeft r o → AreFlat (paths_of h.1) → AreFlat (paths_of (cons_option o h.1))
+    by None is rest = rest
+    by (Some made) is rest = (left_paths (λ q. extends q made.path ≡ false) rows h.1 h.4 (subst (λ p. AllByRecursion (λ q. extends q p ≡ false) (paths_of rows)) (sym is.path) flat.0), rest)
+
+left_good : (rows left : List Row) → AreLeft rows left → AllByRecursion IsRow rows → AllByRecursion IsRow left
+left_good [] left h good = subst (AllByRecursion IsRow) (sym h) tt
+left_good (r ∷ rows) left h good = subst (AllByRecursion IsRow) (sym h.3) (by h.0 h.2 (left_good rows h.1 h.4 good.1))
+  where
+    by : (o : Option Row) → IsLeft r o → AllByRecursion IsRow h.1 → AllByRecursion IsRow (cons_option o h.1)
+    by None is rest = rest
+    by (Some made) is rest =
+        let was : IsRow r = good.0 in
+        (record { path = subst IsFreePath (sym is.path) was.path; mod_id = subst IsModId (sym is.mod_id) was.mod_id; source = subst IsFreePath (sym is.source) was.source }, rest)
+
+-- the sources of one row and of others
+others_apart : (r made : Row) → Renews r made → (rows left : List Row) → AreLeft rows left → AllByRecursion (HaveApartSources r) rows → AllByRecursion (HaveApartSources made) left
+others_apart r made k [] left h all = subst (AllByRecursion (HaveApartSources made)) (sym h) tt
+others_apart r made k (s ∷ rows) left h all = subst (AllByRecursion (HaveApartSources made)) (sym h.3) (by h.0 h.2 (others_apart r made k rows h.1 h.4 all.1))
+  where
+    by : (o : Option Row) → IsLeft s o → AllByRecursion (HaveApartSources made) h.1 → AllByRecursion (HaveApartSources made) (cons_option o h.1)
+    by None is rest = rest
+    by (Some other) is rest = (λ id. subst (λ t. AreApart t other.source) (sym k.source) (subst (AreApart r.source) (sym is.source) (all.0 (sym k.mod_id ∙ id ∙ is.mod_id))), rest)
+
+left_apart : (rows left : List Row) → AreLeft rows left → HasApartSources rows → HasApartSources left
+left_apart [] left h apart = subst HasApartSources (sym h) tt
+left_apart (r ∷ rows) left h apart = subst HasApartSources (sym h.3) (by h.0 h.2 (left_apart rows h.1 h.4 apart.1))
+  where
+    by : (o : Option Row) → IsLeft r o → HasApartSources h.1 → HasApartSources (cons_option o h.1)
+    by None is rest = rest
+    by (Some made) is rest = (others_apart r made is rows h.1 h.4 apart.0, rest)
+
+pub left_kept : (rows left : List Row) → AreLeft rows left → AreRows rows → AreRows left
+left_kept rows left h kept = record { good = left_good rows left h kept.good; rise = left_rise rows left h kept.rise; flat = left_flat rows left h kept.flat; apart = left_apart rows left h kept.apart }
 
 module _ (choice : Choice) (a : Disk) where
   abbrev next : Row → Option Row
@@ -120,7 +130,7 @@ module _ (choice : Choice) (a : Disk) where
   next_renews r made e = renews a r made (deed_of choice a r) e
 
   pub next_kept : (rows : List Row) → AreRows rows → AreRows (next_rows choice a rows)
-  next_kept rows kept = subst AreRows (sym (some_filtered next rows)) (rows_kept next next_renews rows kept)
+  next_kept rows kept = subst AreRows (sym (some_filtered next rows)) (left_kept rows (filter_map next rows) (left_from next next_renews rows) kept)
 
   -- where a row comes from, and what becomes of one
   pub next_from : (rows : List Row) (made : Row) → Contains (next_rows choice a rows) made → (r : Row) × Contains rows r × (next r ≡ Some made)

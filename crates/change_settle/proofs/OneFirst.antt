@@ -5,10 +5,10 @@ use Rattle.std.specs.Ordering.{nat_cmp}
 use Rattle.std.specs.Cmp.Lexicographic.{slice_cmp}
 use Rattle.std.specs.declared.cmp.Ordering.{Ordering}
 use Rattle.std.specs.declared.cmp.Ordering.TheVariants.{Less, Equal, Greater}
-use Rattle.std.specs.declared.option.Option.TheVariants.{None, Some}
+use Rattle.std.specs.declared.option.Option.TheVariants.{Some}
 use Rattle.list_laws.proofs.Orders.{text_tied, text_turned}
 use Rattle.rel_paths.specs.Names.{names_of}
-use Rattle.tree_fs.specs.declared.name.Kind.TheVariants.{Absent, File, Folder, Other}
+use Rattle.tree_fs.specs.declared.name.Kind.TheVariants.{File, Other}
 use Rattle.tree_fs.specs.Spot.{Spot, spot_of}
 use Rattle.tree_fs.specs.Disk.{Disk, kind_of}
 use Rattle.tree_fs.proofs.Spots.{same_place}
@@ -20,10 +20,10 @@ use Rattle.desk_model.specs.Records.{row_at}
 use Rattle.desk_model.specs.Settled.{Choice, Deed, left_whole, put_aside, imported, reverted, accepted, linked_again, staged_again, let_go, dropped, deed_of}
 use Rattle.plan_model.proofs.Firsts.{row-here}
 use Rattle.deploy_plan.specs.Refusals.{IsOutermost}
-use Rattle.deploy_plan.proofs.OneFirst.{open_not_blocking, open_not_taken, Fronts, equal, shorter, longer, fronts}
+use Rattle.deploy_plan.proofs.OneFirst.{open_not_blocking, open_not_taken, equal, shorter, longer, fronts}
 use Rattle.change_settle.specs.declared.error.SettleError.{SettleError}
 use Rattle.change_settle.specs.declared.error.SettleError.TheVariants.{Blocked, AsideFull, Failed, Memory}
-use Rattle.change_settle.specs.Refusals.{restored_spot, NeedsBackup, IsInParentsWay, IsInBackupsWay, IsInTheWay, IsFirstInTheWay, WalkPasses, NoRefusal, IsAsideBlocked, IsRefusal, IsSettleRefusal}
+use Rattle.change_settle.specs.Refusals.{restored_spot, NeedsBackup, IsInTheWay, IsFirstInTheWay, WalkPasses, NoRefusal, IsRefusal, IsSettleRefusal}
 
 module _ (choice : Choice) (a : Disk) (rows : List Row) where
   none_in_the_way : (r : Row) (x : Spot) → WalkPasses choice a rows → Contains rows r → IsInTheWay choice a r x → ⊥

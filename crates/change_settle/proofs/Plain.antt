@@ -1,5 +1,5 @@
 -- A settlement keeps the plain game folder.
-use Rattle.std.proofs.Common.{◌≡◌, ◌≢◌, Bool, true, false, if◌then◌else◌, ℕ, List, refl, sym, ap, ◌∙◌, subst}
+use Rattle.std.proofs.Common.{◌≡◌, if◌then◌else◌, ℕ, List, refl, sym, ap, ◌∙◌, subst}
 use Rattle.std.specs.List.{Contains}
 use Rattle.std.specs.declared.option.Option.{Option}
 use Rattle.std.specs.declared.option.Option.TheVariants.{None, Some}
@@ -28,8 +28,8 @@ use Rattle.change_settle.specs.Deeds.{at_row, game_move, settle_moves, next_row,
 use Rattle.change_settle.specs.Plans.{CanSettle}
 use Rattle.change_settle.proofs.Premises.{at_path, free_path}
 use Rattle.change_settle.proofs.Stands.{Cleared, given_up, gone_back, clears_cleared}
-use Rattle.change_settle.proofs.NextRows.{next_at, next_of, next_from, next_made, next_renews}
-use Rattle.change_settle.proofs.Kept.{users_unsaved, original_of, Leaves, leaves, given_back, behind_kept, behind_empty}
+use Rattle.change_settle.proofs.NextRows.{next_at, next_from, next_made, next_renews}
+use Rattle.change_settle.proofs.Kept.{users_unsaved, original_of, leaves, given_back, behind_kept, behind_empty}
 
 pub seen_here : (t : List ℕ) (f : Spot → Value) → IsFreePath t → without_manifest f (game_spot t) ≡ f (game_spot t)
 seen_here t f good = off_manifest f (game_spot t) (not_manifest (names_of t) (good-off t good))

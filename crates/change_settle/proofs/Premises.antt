@@ -1,8 +1,8 @@
 -- What is known of a row by what is done with it.
-use Rattle.std.proofs.Common.{◌≡◌, ◌⊎◌, ℕ, Bool, true, false, List, [], ◌∷◌, refl, sym, ap, ◌∙◌, inl, inr, subst}
+use Rattle.std.proofs.Common.{◌≡◌, ℕ, Bool, true, false, List, [], ◌∷◌, refl, sym, inl, inr, subst}
 use Rattle.std.specs.List.{Contains}
 use Rattle.std.specs.Str.{bytes_eq}
-use Rattle.std.specs.declared.option.Option.TheVariants.{None, Some}
+use Rattle.std.specs.declared.option.Option.TheVariants.{Some}
 use Rattle.sha2.specs.Sha256.{sha256}
 use Rattle.rel_paths.specs.Names.{names_of, IsFreePath}
 use Rattle.list_laws.proofs.Containing.{contains_here, contains_there, contains_cases, contains_none, find-none}
@@ -21,9 +21,9 @@ use Rattle.change_choices.specs.declared.class.Class.{Class}
 use Rattle.change_choices.specs.declared.class.Class.TheVariants.{Replaced, Changed, Deleted, SourceDeleted, Gone}
 use Rattle.change_choices.specs.Allowed.{is_allowed}
 use Rattle.change_detect.specs.Classes.{staged_of, class_by, class_of}
-use Rattle.change_detect.specs.Refusals.{is_blocking, places_of, first_blocked}
+use Rattle.change_detect.specs.Refusals.{is_blocking, places_of}
 use Rattle.desk_model.specs.Records.{row_at, staged_names, row_staged}
-use Rattle.desk_model.specs.Settled.{Choice, Deed, left_whole, put_aside, imported, reverted, accepted, linked_again, staged_again, let_go, dropped, deed_by, deed_for, deed_of, IsAllowed}
+use Rattle.desk_model.specs.Settled.{Choice, Deed, left_whole, put_aside, imported, reverted, accepted, linked_again, staged_again, let_go, dropped, deed_by, deed_for, deed_of}
 use Rattle.desk_model.proofs.Sourced.{row_staged-right}
 use Rattle.plan_model.proofs.Firsts.{row-here}
 use Rattle.plan_model.proofs.Rows.{row_free}

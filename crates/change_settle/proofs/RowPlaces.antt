@@ -3,7 +3,7 @@ use Rattle.std.proofs.Common.{◌≡◌, ◌≢◌, ℕ, List, [], ◌∷◌, �
 use Rattle.std.specs.List.{Contains}
 use Rattle.std.specs.Str.{bytes_eq}
 use Rattle.std.specs.Fmt.{decimal}
-use Rattle.std.proofs.Common.{Bool, true, false}
+use Rattle.std.proofs.Common.{true, false}
 use Rattle.std.specs.declared.option.Option.TheVariants.{Some}
 use Rattle.list_laws.proofs.Texts.{bytes_eq-itself}
 use Rattle.list_laws.proofs.Alls.{all_item}
@@ -17,14 +17,14 @@ use Rattle.tree_fs.specs.declared.place.Root.TheVariants.{Stage, Game, Keep}
 use Rattle.tree_fs.specs.Spot.{Spot, root_spot, IsBelow}
 use Rattle.tree_fs.specs.Places.{game_spot}
 use Rattle.tree_fs.specs.Texts.{root_word, root_named}
-use Rattle.backup_keep.specs.Places.{aside_spot, aside_folder}
+use Rattle.backup_keep.specs.Places.{aside_spot}
 use Rattle.manifest_json.specs.declared.manifest.Row.{Row}
 use Rattle.manifest_json.specs.Apart.{HaveApartSources, HasApartSources}
 use Rattle.manifest_json.specs.Sound.{AreRows}
 use Rattle.change_detect.specs.Classes.{staged_of}
 use Rattle.move_plan.specs.Rules.{IsFree}
-use Rattle.desk_model.specs.Places.{Names, in_aside, in_stage, IsUsers}
-use Rattle.desk_model.proofs.Cases.{empty, head_is, tail_is}
+use Rattle.desk_model.specs.Places.{Names, in_aside, IsUsers}
+use Rattle.desk_model.proofs.Cases.{head_is, tail_is}
 use Rattle.desk_model.proofs.Spots.{control-names}
 use Rattle.desk_model.proofs.Sourced.{staged-apart}
 use Rattle.plan_model.proofs.Paths.{free_stage, above-free, good-free, good-off}

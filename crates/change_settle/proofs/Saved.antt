@@ -1,9 +1,9 @@
 -- The files that a settlement sets aside, and what stands where their places go.
-use Rattle.std.proofs.Common.{◌≡◌, ◌⊎◌, ℕ, Bool, true, false, List, [], ◌∷◌, ◌++◌, refl, sym, ap, ◌∙◌, inl, inr, subst}
+use Rattle.std.proofs.Common.{◌≡◌, ℕ, true, false, List, [], ◌∷◌, ◌++◌, refl, sym, ap, ◌∙◌, inl, inr, subst}
 use Rattle.std.specs.List.{Contains}
 use Rattle.std.specs.Fmt.{decimal}
 use Rattle.std.specs.declared.option.Option.{Option}
-use Rattle.std.specs.declared.option.Option.TheVariants.{None, Some}
+use Rattle.std.specs.declared.option.Option.TheVariants.{Some}
 use Rattle.tree_fs.specs.declared.name.Kind.TheVariants.{Absent, File}
 use Rattle.tree_fs.specs.declared.place.Root.TheVariants.{Keep}
 use Rattle.tree_fs.specs.Spot.{Spot, IsBelow}
@@ -30,7 +30,7 @@ use Rattle.change_settle.specs.Refusals.{SetsSomeAside}
 use Rattle.change_settle.specs.Plans.{CanSettle}
 use Rattle.change_settle.proofs.Premises.{told_at, kind_has_file}
 use Rattle.change_settle.proofs.Sets.{game_set, stage_set}
-use Rattle.change_settle.proofs.RowPlaces.{RowPlace, in_game, in_mod, AboveAside, the_root, inside, above_aside}
+use Rattle.change_settle.proofs.RowPlaces.{RowPlace, in_game, in_mod, the_root, inside, above_aside}
 
 module _ (choice : Choice) (a : Disk) (old : Manifest) (n : ℕ) (can : CanSettle choice a old n) where
   abbrev m : Moves

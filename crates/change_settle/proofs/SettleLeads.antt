@@ -1,24 +1,21 @@
 -- The plan of a settlement leads to its desk.
-use Rattle.std.proofs.Common.{◌≡◌, ℕ, if◌then◌else◌, List, map, refl, sym, ap, ◌∙◌, subst}
+use Rattle.std.proofs.Common.{◌≡◌, ℕ, if◌then◌else◌, map, refl, sym, ap, ◌∙◌, subst}
 use Rattle.std.specs.List.{Contains}
 use Rattle.std.specs.declared.option.Option.{Option}
 use Rattle.std.specs.declared.option.Option.TheVariants.{None, Some}
-use Rattle.rel_paths.specs.Names.{names_of}
 use Rattle.tree_fs.specs.declared.place.Root.TheVariants.{Stage, Keep}
 use Rattle.tree_fs.specs.Spot.{Spot, spot_eq}
 use Rattle.tree_fs.specs.Places.{game_spot}
-use Rattle.tree_fs.specs.Disk.{Disk, Value, none}
+use Rattle.tree_fs.specs.Disk.{Disk, Value}
 use Rattle.manifest_json.specs.declared.manifest.Row.{Row}
 use Rattle.manifest_json.specs.declared.manifest.Manifest.{Manifest}
-use Rattle.change_detect.specs.Classes.{staged_of}
 use Rattle.move_plan.specs.declared.plan.Plan.{Plan}
 use Rattle.desk_model.specs.Places.{Names, in_game, in_stage}
 use Rattle.desk_model.specs.Desk.{without_manifest, plain, found, found_by, file_or_none, desk_of}
 use Rattle.desk_model.specs.Records.{rows_of, own_of, row_at, row_staged}
 use Rattle.desk_model.specs.Outcome.{updated, recorded_or_none, planned}
 use Rattle.desk_model.specs.Settled.{Choice, deed_of, restages, settled_found, settled_staged, Settled}
-use Rattle.desk_model.proofs.Agreeing.{without-agree}
-use Rattle.desk_model.proofs.Sourced.{row_staged-some, in_desk}
+use Rattle.desk_model.proofs.Sourced.{row_staged-some}
 use Rattle.plan_model.specs.Rows.{old_of}
 use Rattle.plan_model.specs.Moves.{Moves}
 use Rattle.plan_model.specs.Folders.{OwnLaidOut}
@@ -30,9 +27,9 @@ use Rattle.change_settle.specs.Deeds.{at_row, stage_move, settle_moves, next_row
 use Rattle.change_settle.specs.Plans.{CanSettle, SettlePlan}
 use Rattle.change_settle.proofs.Premises.{free_path}
 use Rattle.change_settle.proofs.NextRows.{next_at, next_from, next_renews, next_kept}
-use Rattle.change_settle.proofs.Kept.{users_unsaved, stage_uncleared, Stays, stays, leaves, leaving_value, staged_value}
+use Rattle.change_settle.proofs.Kept.{users_unsaved, stage_uncleared, stays, leaves, leaving_value, staged_value}
 use Rattle.change_settle.proofs.Plain.{plain_same, seen_here}
-use Rattle.change_settle.proofs.Aside.{aside_seen}
+use Rattle.change_settle.proofs.AsideSeen.{aside_seen}
 use Rattle.change_settle.proofs.Gets.{gets_file}
 
 module _ (choice : Choice) (a : Disk) (n : ℕ) (can : CanSettle choice a (old_of a) n) (plan : Plan) (is : SettlePlan choice a (old_of a) n plan) where

@@ -1,6 +1,5 @@
 -- The plan of a settlement is sound.
-use Rattle.std.proofs.Common.{◌≡◌, ◌≢◌, ◌⊎◌, ◌↔◌, ℕ, [], ◌∷◌, List, refl, sym, ap, ◌∙◌, inl, inr, subst}
-use Rattle.std.specs.List.{Contains}
+use Rattle.std.proofs.Common.{◌≡◌, ◌≢◌, ◌↔◌, ℕ, [], ◌∷◌, List, refl, sym, ap, ◌∙◌, inl, inr, subst}
 use Rattle.std.specs.Fmt.{decimal}
 use Rattle.std.specs.declared.option.Option.TheVariants.{None, Some}
 use Rattle.tree_fs.specs.declared.name.Kind.TheVariants.{Absent, File}
@@ -11,7 +10,6 @@ use Rattle.tree_fs.specs.Places.{game_spot}
 use Rattle.tree_fs.specs.Texts.{root_word}
 use Rattle.tree_fs.specs.Disk.{Disk, kind_of}
 use Rattle.backup_keep.specs.Places.{backup_spot, aside_folder, aside_spot}
-use Rattle.manifest_json.specs.declared.manifest.Row.{Row}
 use Rattle.manifest_json.specs.declared.manifest.Manifest.{Manifest}
 use Rattle.move_plan.specs.declared.plan.Plan.{Plan}
 use Rattle.move_plan.specs.Rules.{IsFree}
@@ -19,16 +17,16 @@ use Rattle.move_plan.specs.Sound.{SoundPlan}
 use Rattle.desk_model.specs.Places.{IsUsers}
 use Rattle.desk_model.specs.Settled.{Choice}
 use Rattle.plan_model.specs.Moves.{Move, Moves}
-use Rattle.plan_model.specs.Sound.{IsTo, ByRules, OnDisk}
+use Rattle.plan_model.specs.Sound.{ByRules, OnDisk}
 use Rattle.plan_model.proofs.Values.{is_file-at}
-use Rattle.plan_model.proofs.Paths.{good-not_below, good-free, backup-free}
+use Rattle.plan_model.proofs.Paths.{good-not_below, good-free}
 use Rattle.plan_model.proofs.Rows.{folder_free}
 use Rattle.plan_model.proofs.Sounds.{sound_plan}
 use Rattle.change_settle.specs.Deeds.{settle_moves}
 use Rattle.change_settle.specs.Plans.{CanSettle, SettlePlan}
 use Rattle.change_settle.proofs.Premises.{free_path}
 use Rattle.change_settle.proofs.Sets.{set_tells, behind_unset}
-use Rattle.change_settle.proofs.RowPlaces.{RowPlace, in_game, in_mod, row_users, places_apart, aside_below, free_aside, AboveAside, the_root, inside, above_aside, row_free_place, row_free_above}
+use Rattle.change_settle.proofs.RowPlaces.{in_game, in_mod, row_users, places_apart, aside_below, free_aside, the_root, inside, above_aside, row_free_place, row_free_above}
 use Rattle.change_settle.proofs.Saved.{ready, origin, aside_absent}
 use Rattle.change_settle.proofs.Stands.{Stands, at_row, at_aside, stands, over_stands, takes_source, Back, aside, nothing, set_back, backs_saved, Cleared, given_up, gone_back, clears_cleared}
 

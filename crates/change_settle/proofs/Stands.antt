@@ -1,10 +1,10 @@
 -- Where the destinations of a settlement stand, where its sources do, and what it clears.
-use Rattle.std.proofs.Common.{◌≡◌, ◌≢◌, ◌⊎◌, ℕ, Bool, true, false, if◌then◌else◌, List, refl, sym, ap, ◌∙◌, inl, inr, subst}
+use Rattle.std.proofs.Common.{◌≡◌, ℕ, Bool, true, false, if◌then◌else◌, refl, sym, ap, ◌∙◌, inl, inr, subst}
 use Rattle.std.specs.List.{Contains}
 use Rattle.std.specs.declared.option.Option.{Option}
 use Rattle.std.specs.declared.option.Option.TheVariants.{None, Some}
 use Rattle.rel_paths.proofs.Truths.{both}
-use Rattle.tree_fs.specs.declared.name.Kind.TheVariants.{Absent, File, Folder}
+use Rattle.tree_fs.specs.declared.name.Kind.TheVariants.{Absent, File}
 use Rattle.tree_fs.specs.Spot.{Spot, IsBelow}
 use Rattle.tree_fs.specs.Places.{game_spot}
 use Rattle.tree_fs.specs.Disk.{Disk, none, kind_of}
@@ -23,13 +23,13 @@ use Rattle.plan_model.specs.Moves.{Move, Moves}
 use Rattle.plan_model.specs.Sound.{Takes, Backs, IsTo}
 use Rattle.plan_model.proofs.Values.{HasFile, file_true, file_some}
 use Rattle.plan_model.proofs.Paths.{backup-free, above_path}
-use Rattle.change_settle.specs.Deeds.{moved, original_move, game_move, stage_move, saved_spot, cleared_spot, settle_moves, Saves, Clears}
+use Rattle.change_settle.specs.Deeds.{moved, original_move, game_move, stage_move, saved_spot, cleared_spot, settle_moves}
 use Rattle.change_settle.specs.Refusals.{restored_spot}
 use Rattle.change_settle.specs.Plans.{CanSettle}
 use Rattle.change_settle.proofs.Premises.{told_at, free_path, kind_has_file}
 use Rattle.change_settle.proofs.Sets.{SetCase, at_game, at_stage, set_tells, game_set, stage_set, behind_unset}
 use Rattle.change_settle.proofs.RowPlaces.{RowPlace, in_game, in_mod, row_free_place}
-use Rattle.change_settle.proofs.Saved.{ready, origin, above_none}
+use Rattle.change_settle.proofs.Saved.{ready, above_none}
 
 pub original_file : (a : Disk) (r : Row) → has_original a r ≡ true → HasFile (a.now (backup_spot r.path))
 original_file a r o = file_true (a.now (backup_spot r.path)) (both r.shadowed (is_file (a.now (backup_spot r.path))) o).1

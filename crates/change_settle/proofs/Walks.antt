@@ -5,7 +5,6 @@ use Rattle.std.specs.Option.{option_or, option_map}
 use Rattle.std.specs.declared.option.Option.{Option}
 use Rattle.std.specs.declared.option.Option.TheVariants.{None, Some}
 use Rattle.list_laws.proofs.Containing.{map_contains, contains_map, contains_filter_map, filter_map_contains}
-use Rattle.rel_paths.specs.Names.{names_of}
 use Rattle.tree_fs.specs.Spot.{Spot, spot_of}
 use Rattle.tree_fs.specs.Places.{game_spot}
 use Rattle.tree_fs.specs.Disk.{Disk}
@@ -73,7 +72,7 @@ module _ (choice : Choice) (a : Disk) (rows : List Row) (n : ℕ) (kept : AreRow
       from : m.sets x ≡ Some v → Contains (settle_sets choice a rows n) (x, v)
       from e = by_set (set_tells choice a rows n x v e)
 
-  saves-are : (from to : Spot) → (Contains (settle_saves choice a rows n) (from, to) ↔ Saves choice a rows n from to)
+  pub saves-are : (from to : Spot) → (Contains (settle_saves choice a rows n) (from, to) ↔ Saves choice a rows n from to)
   saves-are from to = (forth, back)
     where
       saved : (r : Row) (o : Option Spot) → option_map {U = Spot × Spot} (λ x. (x, aside_spot n x)) o ≡ Some (from, to) → (o ≡ Some from) × (aside_spot n from ≡ to)

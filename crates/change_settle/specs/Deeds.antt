@@ -31,7 +31,8 @@ abbrev pub game_move : Disk → ℕ → Row → Deed → Option Move
 game_move a n r put_aside = moved (staged_of r) (Some (aside_spot n (game_spot r.path)))
 game_move a n r reverted = moved (staged_of r) (Some (aside_spot n (game_spot r.path)))
 game_move a n r linked_again = moved (staged_of r) None
-game_move a n r let_go = Some (record { from = from_backup a r; back = Some (aside_spot n (game_spot r.path)) })
+game_move a n r let_go =
+    Some (record { from = from_backup a r; back = Some (aside_spot n (game_spot r.path)) })
 game_move a n r dropped = original_move r (has_original a r)
 game_move a n r left_whole = None
 game_move a n r imported = None
@@ -71,7 +72,8 @@ set_of choice a rows n Stage p = at_row choice a (stage_move n) (row_staged rows
 set_of choice a rows n Keep p = None
 
 -- a file is saved, to where it is set aside under the number
-pub record Saves (choice : Choice) (a : Disk) (rows : List Row) (n : ℕ) (from to : Spot) : Type 0 where
+pub record Saves (choice : Choice) (a : Disk) (rows : List Row) (n : ℕ)
+    (from to : Spot) : Type 0 where
   pub row : Row
   pub listed : Contains rows row
   pub saved : saved_spot row (deed_of choice a row) ≡ Some from

@@ -16,7 +16,8 @@ ComesTo n r d x =
     (restored_spot r d ≡ Some x) ⊎ ((y : Spot) × (saved_spot r d ≡ Some y) × (aside_spot n y ≡ x))
 
 -- a missing folder above such a place
-pub record IsMissingFor (choice : Choice) (a : Disk) (rows : List Row) (n : ℕ) (s : Spot) : Type 0 where
+pub record IsMissingFor (choice : Choice) (a : Disk) (rows : List Row) (n : ℕ)
+    (s : Spot) : Type 0 where
   pub missing : a.folders s ≡ false
   pub row : Row
   pub listed : Contains rows row

@@ -73,7 +73,8 @@ OnlyOwnGo =
 -- the rows that are left can be those of a manifest
 abbrev pub RowsAreKept : Type 0
 RowsAreKept =
-    (choice : Choice) (a : Disk) (rows : List Row) → AreRows rows → AreRows (next_rows choice a rows)
+    (choice : Choice) (a : Disk) (rows : List Row) → AreRows rows
+    → AreRows (next_rows choice a rows)
 
 -- and the new own folders can be those of a manifest
 abbrev pub OwnIsKept : Type 0

@@ -5,3 +5,10 @@ pub mod Refusals
 pub mod Folders
 pub mod Plans
 pub mod Laws
+pub mod Decides
+pub mod Tasks
+pub mod Above
+pub mod Looks
+pub mod Steps
+pub mod Lists
+pub mod Rows

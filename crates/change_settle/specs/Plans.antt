@@ -14,7 +14,8 @@ use Rattle.change_settle.specs.Deeds.{settle_moves, next_rows}
 use Rattle.change_settle.specs.Refusals.{SetsSomeAside, NoRefusal}
 
 -- the plan of a settlement over an old manifest, where what is set aside has this number
-pub record SettlePlan (choice : Choice) (a : Disk) (old : Manifest) (n : ℕ) (plan : Plan) : Type 0 where
+pub record SettlePlan (choice : Choice) (a : Disk) (old : Manifest) (n : ℕ)
+    (plan : Plan) : Type 0 where
   pub moves : LaidOut (settle_moves choice a old.rows n) plan
   pub folders : FoldersLaidOut a old.folders plan
   pub manifest : Manifest
@@ -32,3 +33,9 @@ pub record CanSettle (choice : Choice) (a : Disk) (old : Manifest) (n : ℕ) : T
   pub unblocked : first_blocked a old.rows ≡ None
   pub next : SetsSomeAside choice a old.rows → IsNextAside a n
   pub passes : NoRefusal choice a old.rows
+
+-- with the number of what it sets aside
+pub record IsSettlePlan (choice : Choice) (a : Disk) (old : Manifest) (plan : Plan) : Type 0 where
+  pub number : ℕ
+  pub can : CanSettle choice a old number
+  pub is : SettlePlan choice a old number plan

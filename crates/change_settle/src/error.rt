@@ -1,8 +1,9 @@
 // Why a settlement has no plan.
 ghost use Rattle.std.specs.Prelude.{◌≡◌};
-ghost use Rattle.change_settle.specs.Errors.{of_tree};
+ghost use Rattle.change_settle.specs.Errors.{of_tree, of_keep};
 ghost use Rattle.change_settle.specs.declared.error.SettleError.TheVariants.{Memory};
 
+use backup_keep::KeepError;
 use std::alloc::{AllocError, AllocFailed};
 use tree_fs::{Place, TreeError};
 
@@ -28,6 +29,19 @@ impl From<TreeError> for SettleError {
         match error {
             TreeError::Failed => SettleError::Failed,
             TreeError::Memory => SettleError::Memory,
+        }
+    }
+}
+
+impl From<KeepError> for SettleError {
+    ghost from_gives = { λ x e. e ≡ of_keep x };
+
+    fn from(error: KeepError) -> Self {
+        match error {
+            KeepError::Failed => SettleError::Failed,
+            KeepError::AsideFull => SettleError::AsideFull,
+            KeepError::Blocked(place) => SettleError::Blocked(place),
+            KeepError::Memory => SettleError::Memory,
         }
     }
 }

@@ -1,5 +1,6 @@
 // The laws of a settlement's plan, each as the contract of a call that does nothing.
-ghost use Rattle.change_settle.specs.Laws.{SettleLeads, SettleSound, SettleOnce, SettleWalks, MadeForFiles, OnlyOwnGo, RowsAreKept, OwnIsKept, NoneIsFirst, FirstIsOne};
+ghost use Rattle.change_settle.specs.Laws.{SettleLeads, SettleSound, SettleOnce, SettleWalks, MadeForFiles, OnlyOwnGo};
+ghost use Rattle.change_settle.specs.Laws.{RowsAreKept, OwnIsKept, NoneIsFirst, FirstIsOne};
 
 /// The plan of a settlement leads to its desk.
 pub fn settle_leads()

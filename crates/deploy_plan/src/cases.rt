@@ -18,7 +18,8 @@ ghost use Rattle.deploy_plan.specs.Steps.{Refused, IsAtPlace, IsBackupTaken, IsS
 ghost use Rattle.deploy_plan.specs.Parents.{AreSeen, LooksUpTo};
 ghost use Rattle.deploy_plan.specs.Missing.{AreNoted, LooksFor};
 ghost use Rattle.rel_paths.specs.Names.{IsFreePath};
-ghost use Rattle.deploy_plan.specs.Told.{IsGoodCase, IsCaseOf, told_win_of, step_win, IsWin, IsGoodStep, win_seen, step_seen, case_seen, told};
+ghost use Rattle.deploy_plan.specs.Told.{IsGoodCase, IsCaseOf, told_win_of, step_win, IsWin, IsGoodStep, win_seen};
+ghost use Rattle.deploy_plan.specs.Told.{step_seen, case_seen, told};
 
 use crate::PlanError;
 use crate::parents::Parents;

@@ -1,5 +1,7 @@
 // The laws of a deployment's plan, each as the contract of a call that does nothing.
-ghost use Rattle.deploy_plan.specs.Laws.{DeployLeads, DeploySound, DeployOnce, WalkLaysOut, WalkInOrder, MadeForWins, OnlyOwnGo, RowsAreKept, OwnIsKept, NoneIsFirst, FirstIsOne, TurnedOrNone, ObstacleOrNone};
+ghost use Rattle.deploy_plan.specs.Laws.{DeployLeads, DeploySound, DeployOnce, WalkLaysOut, WalkInOrder, MadeForWins};
+ghost use Rattle.deploy_plan.specs.Laws.{OnlyOwnGo, RowsAreKept, OwnIsKept, NoneIsFirst, FirstIsOne, TurnedOrNone};
+ghost use Rattle.deploy_plan.specs.Laws.{ObstacleOrNone};
 ghost use Rattle.deploy_plan.specs.Scanned.{SourcesBelong, WinnersHaveSources, WinnersAreStaged};
 
 /// The plan of a deployment leads to its desk.

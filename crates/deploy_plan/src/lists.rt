@@ -9,7 +9,8 @@ ghost use Rattle.plan_model.specs.Lists.{spotted, ends_of};
 ghost use Rattle.deploy_plan.specs.Order.{turned_ends, turned, PathsRise, HasSameEnds};
 ghost use Rattle.plan_lists.specs.Order.{HasSameSpots};
 ghost use Rattle.move_plan.specs.Rising.{AreRising};
-ghost use Rattle.deploy_plan.specs.Told.{IsWin, IsGoodCase, win_seen, case_seen, told_path, told_set, told_save, told_clear, leaving, turning, coming, covering};
+ghost use Rattle.deploy_plan.specs.Told.{IsWin, IsGoodCase, win_seen, case_seen, told_path, told_set, told_save};
+ghost use Rattle.deploy_plan.specs.Told.{told_clear, leaving, turning, coming, covering};
 
 use crate::cases::PathCase;
 use crate::wins::Won;

@@ -14,7 +14,8 @@ ghost use Rattle.desk_model.specs.Outcome.{file_at};
 ghost use Rattle.plan_exec.specs.declared.error.ExecError.TheVariants.{Failed};
 ghost use Rattle.plan_exec.specs.Counts.{Runs};
 ghost use Rattle.plan_exec.specs.Frames.{Brings};
-ghost use Rattle.plan_exec.specs.Causes.{Tells, StillBut, source_by, place_by, parent_by, link_obstacle, clear_obstacle, set_obstacle, save_obstacle};
+ghost use Rattle.plan_exec.specs.Causes.{Tells, StillBut, source_by, place_by, parent_by, link_obstacle};
+ghost use Rattle.plan_exec.specs.Causes.{clear_obstacle, set_obstacle, save_obstacle};
 
 use crate::ExecError;
 use move_plan::SetRow;

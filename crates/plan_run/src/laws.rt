@@ -1,6 +1,8 @@
 // What a command that carries out a plan relies on, each law as the contract of a call that does
 // nothing.
-ghost use Rattle.plan_run.specs.Laws.{SweptIsQuiet, SweptIsOpen, SweepsKeep, QuietLeads, QuietStops, QuietKeeps, LaidOutIsNeeded, ExecutedIsQuiet, DeploysToEnd, DeploysAtStops, SettlesToEnd, SettlesAtStops, PurgesToEnd, PurgesAtStops};
+ghost use Rattle.plan_run.specs.Laws.{SweptIsQuiet, SweptIsOpen, SweepsKeep, QuietLeads, QuietStops, QuietKeeps};
+ghost use Rattle.plan_run.specs.Laws.{LaidOutIsNeeded, ExecutedIsQuiet, DeploysToEnd, DeploysAtStops, SettlesToEnd};
+ghost use Rattle.plan_run.specs.Laws.{SettlesAtStops, PurgesToEnd, PurgesAtStops};
 
 /// After the sweep of a disk that stands without an intent the disk is quiet, and nothing stands in
 /// the way of a control place where nothing stood there before. Each step of the sweep keeps the

@@ -1,5 +1,6 @@
 // The laws of a purge's plan, each as the contract of a call that does nothing.
-ghost use Rattle.purge_run.specs.Laws.{PurgeLeads, PurgeSound, PurgeOnce, PurgeIsOne, PurgeWalks, SetsInOrder, SavesInOrder, MadeForAsides, OnlyOwnGo, NoneIsFirst, FirstIsOne};
+ghost use Rattle.purge_run.specs.Laws.{PurgeLeads, PurgeSound, PurgeOnce, PurgeIsOne, PurgeWalks, SetsInOrder};
+ghost use Rattle.purge_run.specs.Laws.{SavesInOrder, MadeForAsides, OnlyOwnGo, NoneIsFirst, FirstIsOne};
 
 /// The plan of a purge leads to its desk.
 pub fn purge_leads()
