@@ -1,0 +1,9 @@
+pub mod Digits
+pub mod Naming
+pub mod Ranges
+pub mod Standing
+pub mod Apart
+pub mod Grown
+pub mod Trees
+pub mod Steps
+pub mod Listed

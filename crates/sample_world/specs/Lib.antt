@@ -1,0 +1,5 @@
+pub mod Texts
+pub mod Profiles
+pub mod Files
+pub mod Parts
+pub mod Worlds
