@@ -1,5 +1,5 @@
 -- The control places, one after the other.
-use Rattle.std.proofs.Common.{◌≡◌, ◌∙◌, ◌+◌, ◌<◌, ◌≤◌, ℕ, List, [], ◌∷◌, ◌++◌, map, length, get_or, take, drop, suc, refl, sym, ap, subst, inl, inr, take_all}
+use Rattle.std.proofs.Common.{◌≡◌, ◌∙◌, ◌+◌, ◌<◌, ◌≤◌, ℕ, List, [], ◌∷◌, ◌++◌, map, length, get_or, take, drop, suc, refl, sym, subst, inl, inr, take_all}
 use Rattle.std.specs.List.{AllByRecursion}
 use Rattle.std.specs.declared.result.Result.TheVariants.{Ok}
 use Rattle.rel_paths.specs.declared.control.Control.{Control}
@@ -13,7 +13,7 @@ use Rattle.intent_journal.specs.declared.temp.Temp.TheVariants.{Intent, Manifest
 use Rattle.intent_journal.specs.Temps.{IsFileOrAbsent, temp_spot}
 use Rattle.command_steps.specs.declared.limits.Limits.{Limits}
 use Rattle.command_steps.specs.declared.stop.Stop.{Stop}
-use Rattle.command_steps.specs.Steps.{Step, fine, IsFine, Nothing}
+use Rattle.command_steps.specs.Steps.{fine, IsFine, Nothing}
 use Rattle.command_steps.specs.Orders.{guards, start, after_steps, AllPass, IsFirst, IsWhy, Passed, Takes}
 
 all_pass : (xs : List Control) (limits : Limits) (s : Story) → AllByRecursion (IsFine (disk_of s)) xs → AllPass (map fine xs) limits s

@@ -7,6 +7,8 @@ pub mod OneLook
 pub mod Differ
 pub mod OneWins
 pub mod OnePlan
+pub mod OneSettle
+pub mod RowsRead
 pub mod Refusing
 pub mod ModsFound
 pub mod Nodes
@@ -18,3 +20,5 @@ pub mod Cycling
 pub mod Looking
 pub mod Sourcing
 pub mod Planning
+pub mod Settling
+pub mod Answering

@@ -9,7 +9,7 @@ use Rattle.profile_toml.specs.Records.{ProfileData, ModData}
 use Rattle.stage_scan.specs.declared.scan.Scan.{Scan}
 use Rattle.winner_table.specs.Winners.{HasEachOnce}
 use Rattle.command_steps.specs.Profiles.{enabled_ids, base_of, bases_of, IsGraphOf}
-use Rattle.command_steps.specs.Scans.{placed_scan, placed_scans}
+use Rattle.command_steps.specs.Scans.{placed_scans}
 use Rattle.command_steps.proofs.Cycling.{count_of_ids}
 
 length-placed : (bs : List (Option (List ℕ))) (ss : List Scan) → length bs ≡ length ss → length (placed_scans bs ss) ≡ length ss

@@ -1,14 +1,11 @@
 -- What is found of the enabled mods of a disk is found in one way.
-use Rattle.std.proofs.Common.{◌≡◌, ◌≢◌, ℕ, List, [], ◌∷◌, map, refl, sym, ap, ◌∙◌, subst}
-use Rattle.std.specs.List.{Contains}
+use Rattle.std.proofs.Common.{◌≡◌, ℕ, List, refl, subst}
 use Rattle.std.specs.Ordering.{nat_cmp}
 use Rattle.std.specs.Cmp.Lexicographic.{slice_cmp}
 use Rattle.std.specs.declared.cmp.Ordering.{Ordering}
 use Rattle.std.specs.declared.cmp.Ordering.TheVariants.{Less, Equal, Greater}
 use Rattle.tree_fs.specs.Disk.{Disk}
 use Rattle.list_laws.proofs.Orders.{text_turned, text_tied}
-use Rattle.profile_toml.specs.Records.{ProfileData}
-use Rattle.mod_rules.specs.Edges.{GraphData}
 use Rattle.stage_scan.specs.declared.scan.Scan.{Scan}
 use Rattle.winner_table.specs.declared.wins.WinRow.{WinRow}
 use Rattle.winner_table.specs.Folders.{IsLeastFolder}

@@ -1,5 +1,5 @@
 -- The plan of a deployment on a disk is one.
-use Rattle.std.proofs.Common.{◌≡◌, List, subst}
+use Rattle.std.proofs.Common.{◌≡◌, subst}
 use Rattle.tree_fs.specs.Disk.{Disk}
 use Rattle.move_plan.specs.declared.plan.Plan.{Plan}
 use Rattle.plan_model.specs.Rows.{old_of}

@@ -1,7 +1,6 @@
 -- A disk has one profile, and its mods one graph and one load order.
 use Rattle.std.proofs.Common.{◌≡◌, ℕ, List, ◌∙◌, sym, ap}
 use Rattle.std.specs.Prelude.{Ok, Err}
-use Rattle.std.specs.List.{Contains}
 use Rattle.std.specs.Cmp.{IsTotalOrder}
 use Rattle.std.specs.Cmp.Lexicographic.{nat_list_cmp_total}
 use Rattle.std.specs.declared.option.Option.{Option}

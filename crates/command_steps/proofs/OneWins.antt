@@ -4,7 +4,6 @@ use Rattle.std.specs.Prelude.{nat_eq, unwrap_or, cond}
 use Rattle.std.specs.List.{AllByRecursion, Contains, IsDistinct}
 use Rattle.std.specs.Str.{bytes_eq}
 use Rattle.std.specs.Cmp.Lexicographic.{pointwise, nat_list_cmp_total}
-use Rattle.std.specs.declared.option.Option.{Option}
 use Rattle.list_laws.proofs.Alls.{all_item}
 use Rattle.list_laws.proofs.Containing.{contains_map, contains_seam}
 use Rattle.list_laws.proofs.Sorted.{sorted_same}
@@ -15,12 +14,12 @@ use Rattle.stage_scan.specs.declared.placed.Sources.{Sources}
 use Rattle.winner_table.specs.declared.wins.By.{By}
 use Rattle.winner_table.specs.declared.wins.By.TheVariants.{Override, Order}
 use Rattle.winner_table.specs.declared.wins.WinRow.{WinRow}
-use Rattle.winner_table.specs.Winners.{id_at, providers, paths_of, IsProvided, IsOverridden, IsLast, IsWinner, AreWinners}
+use Rattle.winner_table.specs.Winners.{id_at, providers, paths_of, IsProvided, IsWinner, AreWinners}
 use Rattle.winner_table.proofs.Offered.{provider_is}
 use Rattle.winner_table.proofs.Overriding.{one_override}
 use Rattle.desk_model.specs.Deployed.{Win}
 use Rattle.deploy_plan.specs.Sources.{source_in, source_at, win_from, wins_of}
-use Rattle.command_steps.specs.Looks.{Look, IsLook, AreWins, AreSourcesOf, HasWins, placed}
+use Rattle.command_steps.specs.Looks.{Look, AreWins, AreSourcesOf, HasWins, placed}
 use Rattle.command_steps.proofs.Differ.{paths_differ}
 use Rattle.command_steps.proofs.OneLook.{one_look}
 

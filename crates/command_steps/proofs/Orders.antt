@@ -13,7 +13,7 @@ use Rattle.command_steps.specs.Stops.{IsFault, tree_stop}
 use Rattle.command_steps.specs.Steps.{Step, Passes, Refuses, next}
 use Rattle.command_steps.specs.Orders.{after_steps, AllPass, IsFirst, IsWhy, Passed, Takes}
 
-after-append : (xs ys : List Step) (s : Story) → after_steps (xs ++ ys) s ≡ after_steps ys (after_steps xs s)
+pub after-append : (xs ys : List Step) (s : Story) → after_steps (xs ++ ys) s ≡ after_steps ys (after_steps xs s)
 after-append [] ys s = refl
 after-append (x ∷ xs) ys s = after-append xs ys (next x s)
 

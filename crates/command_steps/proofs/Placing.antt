@@ -1,14 +1,13 @@
 -- The files of the enabled mods, each where it is deployed.
-use Rattle.std.proofs.Common.{◌≡◌, ℕ, zero, suc, ◌+◌, ◌<◌, ◌≤◌, ◌⊎◌, true, false, List, [], ◌∷◌, ◌++◌, map, length, take, get_or, refl, sym, ap, ◌∙◌, subst, inl, inr, arith, append-nil, take_all}
+use Rattle.std.proofs.Common.{◌≡◌, ℕ, zero, suc, ◌+◌, ◌<◌, true, false, List, [], ◌∷◌, ◌++◌, map, length, take, get_or, refl, sym, ap, ◌∙◌, subst, inl, inr, arith, append-nil, take_all}
 use Rattle.std.specs.Prelude.{slice_get}
 use Rattle.std.specs.List.{AllByRecursion}
 use Rattle.std.specs.declared.option.Option.{Option}
-use Rattle.std.specs.declared.option.Option.TheVariants.{None, Some}
-use Rattle.std.specs.declared.result.Result.TheVariants.{Ok, Err}
+use Rattle.std.specs.declared.option.Option.TheVariants.{Some}
+use Rattle.std.specs.declared.result.Result.TheVariants.{Ok}
 use Rattle.std.proofs.lemmas.Bool.{cases_lt}
 use Rattle.std.proofs.lemmas.List.{map-append, length-append, length-map}
 use Rattle.rel_paths.specs.Names.{IsFreePath}
-use Rattle.tree_fs.specs.Disk.{Disk}
 use Rattle.tree_fs.specs.Story.{Story, disk_of}
 use Rattle.list_laws.proofs.Lists.{one_more}
 use Rattle.profile_toml.specs.Records.{ProfileData, ModData}
@@ -20,10 +19,9 @@ use Rattle.stage_scan.specs.Placed.{target, HasUserTarget, IsPlaced}
 use Rattle.deploy_plan.specs.Sources.{AreItsSources, AreSources}
 use Rattle.command_steps.specs.declared.limits.Limits.{Limits}
 use Rattle.command_steps.specs.declared.stop.Stop.{Stop}
-use Rattle.command_steps.specs.declared.stop.Stop.TheVariants.{Memory}
 use Rattle.command_steps.specs.Stops.{IsFault}
 use Rattle.command_steps.specs.Profiles.{HasProfile, enabled_ids, base_of, bases_of}
-use Rattle.command_steps.specs.Scans.{AreScans, HaveTargets, IsFirstTargetLong, IsLongStop, placed_scan, placed_scans}
+use Rattle.command_steps.specs.Scans.{AreScans, HaveTargets, IsLongStop, placed_scan, placed_scans}
 use Rattle.command_steps.specs.Looks.{AreSourcesOf}
 use Rattle.command_steps.specs.Steps.{targets}
 use Rattle.command_steps.specs.Orders.{IsWhy, Takes}

@@ -1,5 +1,5 @@
 -- The plan of a deployment, as a step.
-use Rattle.std.proofs.Common.{◌≡◌, ◌⊎◌, ℕ, Bool, true, false, cond, List, [], ◌∷◌, map, unwrap_or, length, refl, sym, ap, ◌∙◌, inl, inr, subst}
+use Rattle.std.proofs.Common.{◌≡◌, ◌⊎◌, ℕ, Bool, true, false, cond, List, [], ◌∷◌, map, unwrap_or, refl, sym, ap, ◌∙◌, inl, inr, subst}
 use Rattle.std.specs.List.{AllByRecursion, Contains}
 use Rattle.std.specs.List.Sorted.{IsStrictlySortedBy}
 use Rattle.std.specs.Str.{bytes_eq}
@@ -41,7 +41,7 @@ use Rattle.command_steps.specs.declared.look.Looked.{Looked}
 use Rattle.command_steps.specs.Stops.{IsFault, plan_stop, purge_stop}
 use Rattle.command_steps.specs.Manifests.{HasManifest}
 use Rattle.command_steps.specs.Scans.{placed_scans}
-use Rattle.command_steps.specs.Looks.{HasWins, AreSourcesOf}
+use Rattle.command_steps.specs.Looks.{HasWins}
 use Rattle.command_steps.specs.Found.{IsLooked}
 use Rattle.command_steps.specs.Plans.{HasPlan, HasPurgePlan}
 use Rattle.command_steps.specs.Steps.{planned, purged}

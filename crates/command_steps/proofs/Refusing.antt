@@ -1,19 +1,17 @@
 -- Each step: it passes or refuses, and refuses in one way.
-use Rattle.std.proofs.Common.{◌≡◌, ◌≢◌, ◌⊎◌, ℕ, ◌<◌, ◌≤◌, List, [], ◌∷◌, length, map, refl, sym, ap, ◌∙◌, subst, inl, inr, arith}
-use Rattle.std.specs.Prelude.{Ok, Err}
+use Rattle.std.proofs.Common.{◌≡◌, ◌⊎◌, ℕ, ◌<◌, ◌≤◌, List, length, map, sym, ap, ◌∙◌, subst, inl, inr, arith}
+use Rattle.std.specs.Prelude.{Err}
 use Rattle.std.specs.declared.option.Option.{Option}
 use Rattle.std.specs.declared.option.Option.TheVariants.{None, Some}
 use Rattle.std.specs.declared.result.Result.{Result}
 use Rattle.std.specs.Result.{result_ok}
-use Rattle.tree_fs.specs.declared.place.Place.{Place}
 use Rattle.tree_fs.specs.declared.name.Kind.TheVariants.{File, Absent}
-use Rattle.tree_fs.specs.Spot.{Spot, spot_of}
-use Rattle.tree_fs.specs.Disk.{Disk, Value, none, file, odd, kind_of}
+use Rattle.tree_fs.specs.Spot.{spot_of}
+use Rattle.tree_fs.specs.Disk.{Disk, Value, none, file, odd}
 use Rattle.tree_fs.specs.Parts.{bytes_of}
 use Rattle.tree_fs.proofs.Spots.{same_place}
-use Rattle.profile_toml.specs.Records.{ProfileData, RuleData}
+use Rattle.profile_toml.specs.Records.{ProfileData}
 use Rattle.mod_rules.specs.Checks.{first_failing_rule, error_of}
-use Rattle.mod_rules.specs.Edges.{GraphData}
 use Rattle.load_order.specs.Cycles.{IsFound as IsCycle}
 use Rattle.load_order.proofs.OneCycle.{found_alone}
 use Rattle.stage_scan.specs.declared.scan.Scan.{Scan}
@@ -27,18 +25,20 @@ use Rattle.intent_journal.specs.declared.error.ReadyError.{ReadyError}
 use Rattle.intent_journal.specs.Found.{IsFound, IsNoIntent}
 use Rattle.intent_journal.specs.Lengths.{length_fault}
 use Rattle.move_plan.specs.declared.plan.Plan.{Plan}
-use Rattle.desk_model.specs.Places.{manifest_spot, intent_spot}
-use Rattle.desk_model.specs.Deployed.{Win}
+use Rattle.desk_model.specs.Places.{manifest_spot}
 use Rattle.desk_model.specs.Records.{recorded_by, read_as, rows_on}
 use Rattle.desk_model.specs.Outcome.{recorded_or_none}
-use Rattle.deploy_plan.specs.declared.error.PlanError.{PlanError}
 use Rattle.deploy_plan.specs.Refusals.{IsPlanRefusal}
 use Rattle.deploy_plan.proofs.OneFirst.{none_is_first, first_is_one}
 use Rattle.plan_model.specs.Rows.{old_of}
 use Rattle.purge_run.proofs.OneFirst.{none_is_first as none_purged, first_is_one as one_purged}
 use Rattle.purge_run.proofs.OnePlan.{purge_is_one}
+use Rattle.change_choices.specs.Choice.{choice}
+use Rattle.change_settle.proofs.OneFirst.{none_is_first as none_settled, first_is_one as one_settled}
 use Rattle.profile_edit.specs.Edits.{edit_fault}
 use Rattle.answer_lines.specs.Lists.{id_of}
+use Rattle.choice_lines.proofs.Once.{read_or_refused, one_refusal}
+use Rattle.answer_lines.specs.declared.refusal.InputRefusal.{InputRefusal}
 use Rattle.answer_lines.specs.declared.refusal.Refusal.TheVariants as group
 use Rattle.answer_lines.specs.declared.refusal.PlanRefusal.TheVariants.{Blocked}
 use Rattle.answer_lines.specs.declared.refusal.ProfileRefusal.TheVariants.{TooManyMods, TooLong}
@@ -46,19 +46,22 @@ use Rattle.answer_lines.specs.declared.refusal.RuleRefusal.TheVariants.{Cycle}
 use Rattle.command_steps.specs.declared.limits.Limits.{Limits}
 use Rattle.command_steps.specs.declared.stop.Stop.{Stop}
 use Rattle.command_steps.specs.declared.stop.Stop.TheVariants.{Refused}
-use Rattle.command_steps.specs.Stops.{profile_stop, rule_stop, win_stop, manifest_stop, plan_stop, ready_stop, purge_stop, edit_stop}
-use Rattle.command_steps.specs.Profiles.{IsReadFault, HasProfile, enabled_ids, bases_of, IsGraphOf, IsOrderOf}
-use Rattle.command_steps.specs.Scans.{HaveNoFault, IsFirstScanFault, AreScans, HaveTargets, IsFirstTargetLong}
-use Rattle.command_steps.specs.Looks.{Look, placed}
+use Rattle.command_steps.specs.Stops.{profile_stop, rule_stop, win_stop, manifest_stop, plan_stop, ready_stop, purge_stop, settle_stop, edit_stop}
+use Rattle.command_steps.specs.Profiles.{HasProfile, enabled_ids, bases_of, IsGraphOf, IsOrderOf}
+use Rattle.command_steps.specs.Scans.{IsFirstScanFault, AreScans, IsFirstTargetLong}
+use Rattle.command_steps.specs.Looks.{placed}
 use Rattle.command_steps.specs.Manifests.{HasManifest, HasManifestFault, manifest_size}
 use Rattle.command_steps.specs.Plans.{IsIdleOn}
-use Rattle.command_steps.specs.Steps.{Step, fine, no_intent, barrier, profile, rules, order, scans, targets, winners, manifest, changes, intent, planned, fits, purged, purge_fits, edit, Passes, Refuses}
+use Rattle.command_steps.specs.Inputs.{changes_on, answers_in, IsAnswered, input_refusal, IsInputRefusal}
+use Rattle.command_steps.specs.Steps.{Step, fine, no_intent, barrier, profile, rules, order, scans, targets, winners, manifest, changes, intent, planned, fits, purged, purge_fits, answers, settled, settle_fits, edit, Passes, Refuses}
 use Rattle.command_steps.proofs.OneProfile.{one_profile, one_read, no_fault, of_err, one_graph}
 use Rattle.command_steps.proofs.OneScan.{one_scans}
 use Rattle.command_steps.proofs.ScanFaults.{one_scan_fault, no_scan_fault, one_target_long, no_target_long}
 use Rattle.command_steps.proofs.OneLook.{one_look, one_folder, no_folder}
 use Rattle.command_steps.proofs.OneWins.{one_wins}
 use Rattle.command_steps.proofs.OnePlan.{one_plan}
+use Rattle.command_steps.proofs.OneSettle.{settle_is_one}
+use Rattle.command_steps.proofs.RowsRead.{rows_read}
 
 -- Options and counts
 
@@ -174,6 +177,23 @@ exclusive_intent : (d : Disk) (found : Option Intent) → IsFound d found → Is
 exclusive_intent d None is turned = let no_way : Absent ≡ File = sym is ∙ turned.file in cc
 exclusive_intent d (Some i) is turned = not_both _ i turned.value is.value
 
+-- The length of a plan's text
+
+fits_apart : (limits : Limits) (d : Disk) (p q : Plan) (error : ReadyError) → q ≡ p → IsIdleOn d p ⊎ (length_fault p limits.text ≡ None) → ¬ IsIdleOn d q → length_fault q limits.text ≡ Some error → ⊥
+fits_apart limits d p q error same (inl idle) moves long = moves (subst (IsIdleOn d) (sym same) idle)
+fits_apart limits d p q error same (inr short) moves long = not_both (length_fault p limits.text) error short (ap (λ r. length_fault r limits.text) (sym same) ∙ long)
+
+one_length : (limits : Limits) (p q : Plan) (e f : ReadyError) → p ≡ q → length_fault p limits.text ≡ Some e → length_fault q limits.text ≡ Some f → e ≡ f
+one_length limits p q e f same long also = of_some e f (sym long ∙ ap (λ r. length_fault r limits.text) same ∙ also)
+
+-- The input
+
+exclusive_answers : (d : Disk) (bytes : List ℕ) (refusal : InputRefusal) → IsAnswered d bytes → IsInputRefusal d bytes refusal → ⊥
+exclusive_answers d bytes refusal pass turned = read_or_refused (changes_on d) bytes (answers_in bytes) turned.error pass.read pass.answers turned.first
+
+unique_answers : (d : Disk) (bytes : List ℕ) (one other : InputRefusal) → IsInputRefusal d bytes one → IsInputRefusal d bytes other → one ≡ other
+unique_answers d bytes one other a b = of_some one other (sym a.is ∙ ap input_refusal (one_refusal (changes_on d) bytes a.error b.error a.first b.first) ∙ b.is)
+
 -- All steps
 
 pub exclusive : (step : Step) (limits : Limits) (d : Disk) (stop : Stop) → Passes step limits d → Refuses step limits d stop → ⊥
@@ -191,23 +211,12 @@ exclusive changes limits d stop pass turned = not_both _ (spot_of turned.0) pass
 exclusive intent limits d stop pass turned = exclusive_intent d pass.0 pass.1 turned.1
 exclusive planned limits d stop pass turned =
     none_is_first d (rows_on d) pass.0 turned.2 pass.2 turned.3 (subst (λ w. IsPlanRefusal d (rows_on d) w turned.2) (one_wins d turned.0 pass.0 turned.1 pass.1) turned.4)
-exclusive fits limits d stop pass turned = fits_apart pass.2
-  where
-    same : turned.0 ≡ pass.0
-    same = one_plan d turned.0 pass.0 turned.1 pass.1
-
-    fits_apart : IsIdleOn d pass.0 ⊎ (length_fault pass.0 limits.text ≡ None) → ⊥
-    fits_apart (inl idle) = turned.2 (subst (IsIdleOn d) (sym same) idle)
-    fits_apart (inr short) = not_both (length_fault pass.0 limits.text) turned.3 short (ap (λ p. length_fault p limits.text) (sym same) ∙ turned.4)
+exclusive fits limits d stop pass turned = fits_apart limits d pass.0 turned.0 turned.3 (one_plan d turned.0 pass.0 turned.1 pass.1) pass.2 turned.2 turned.4
 exclusive purged limits d stop pass turned = none_purged d (rows_on d) turned.0 pass turned.1 turned.2
-exclusive purge_fits limits d stop pass turned = fits_apart pass.2
-  where
-    same : turned.0 ≡ pass.0
-    same = purge_is_one d (old_of d) turned.0 pass.0 turned.1 pass.1
-
-    fits_apart : IsIdleOn d pass.0 ⊎ (length_fault pass.0 limits.text ≡ None) → ⊥
-    fits_apart (inl idle) = turned.2 (subst (IsIdleOn d) (sym same) idle)
-    fits_apart (inr short) = not_both (length_fault pass.0 limits.text) turned.3 short (ap (λ p. length_fault p limits.text) (sym same) ∙ turned.4)
+exclusive purge_fits limits d stop pass turned = fits_apart limits d pass.0 turned.0 turned.3 (purge_is_one d (old_of d) turned.0 pass.0 turned.1 pass.1) pass.2 turned.2 turned.4
+exclusive (answers input) limits d stop pass turned = exclusive_answers d input turned.0 pass turned.1
+exclusive (settled choices) limits d stop pass turned = none_settled (choice choices) d (rows_on d) turned.0 pass turned.1 turned.2
+exclusive (settle_fits choices) limits d stop pass turned = fits_apart limits d pass.0 turned.0 turned.3 (settle_is_one (choice choices) d (old_of d) turned.0 pass.0 turned.1 pass.1) pass.2 turned.2 turned.4
 exclusive (edit e) limits d stop pass turned = not_both (edit_fault limits.mods pass.0 e) turned.2 pass.2 (ap (λ p. edit_fault limits.mods p e) (one_profile d pass.0 turned.0 pass.1 turned.1) ∙ turned.3)
 
 pub unique : (step : Step) (limits : Limits) (d : Disk) (one other : Stop) → Refuses step limits d one → Refuses step limits d other → one ≡ other
@@ -227,15 +236,12 @@ unique planned limits d one other a b =
     let same : b.0 ≡ a.0 = one_wins d b.0 a.0 b.1 a.1 in
     let error : a.2 ≡ b.2 = first_is_one d (rows_on d) a.0 a.2 b.2 a.3 b.3 a.4 (subst (λ w. IsPlanRefusal d (rows_on d) w b.2) same b.4) in
     a.5 ∙ ap plan_stop error ∙ sym b.5
-unique fits limits d one other a b =
-    let same : a.0 ≡ b.0 = one_plan d a.0 b.0 a.1 b.1 in
-    let error : a.3 ≡ b.3 = of_some a.3 b.3 (sym a.4 ∙ ap (λ p. length_fault p limits.text) same ∙ b.4) in
-    a.5 ∙ ap ready_stop error ∙ sym b.5
+unique fits limits d one other a b = a.5 ∙ ap ready_stop (one_length limits a.0 b.0 a.3 b.3 (one_plan d a.0 b.0 a.1 b.1) a.4 b.4) ∙ sym b.5
 unique purged limits d one other a b = a.3 ∙ ap purge_stop (one_purged d (rows_on d) a.0 b.0 a.1 b.1 a.2 b.2) ∙ sym b.3
-unique purge_fits limits d one other a b =
-    let same : a.0 ≡ b.0 = purge_is_one d (old_of d) a.0 b.0 a.1 b.1 in
-    let error : a.3 ≡ b.3 = of_some a.3 b.3 (sym a.4 ∙ ap (λ p. length_fault p limits.text) same ∙ b.4) in
-    a.5 ∙ ap ready_stop error ∙ sym b.5
+unique purge_fits limits d one other a b = a.5 ∙ ap ready_stop (one_length limits a.0 b.0 a.3 b.3 (purge_is_one d (old_of d) a.0 b.0 a.1 b.1) a.4 b.4) ∙ sym b.5
+unique (answers input) limits d one other a b = a.2 ∙ ap (λ r. Refused (group.Input r)) (unique_answers d input a.0 b.0 a.1 b.1) ∙ sym b.2
+unique (settled choices) limits d one other a b = a.3 ∙ ap settle_stop (one_settled (choice choices) d (rows_on d) a.0 b.0 (rows_read d) a.1 b.1 a.2 b.2) ∙ sym b.3
+unique (settle_fits choices) limits d one other a b = a.5 ∙ ap ready_stop (one_length limits a.0 b.0 a.3 b.3 (settle_is_one (choice choices) d (old_of d) a.0 b.0 a.1 b.1) a.4 b.4) ∙ sym b.5
 unique (edit e) limits d one other a b =
     let error : a.2 ≡ b.2 = of_some a.2 b.2 (sym a.3 ∙ ap (λ p. edit_fault limits.mods p e) (one_profile d a.0 b.0 a.1 b.1) ∙ b.3) in
     a.4 ∙ ap edit_stop error ∙ sym b.4

@@ -1,7 +1,7 @@
 -- The scans of mods, one after the other.
-use Rattle.std.proofs.Common.{◌≡◌, ℕ, ◌+◌, ◌-◌, ◌<◌, ◌≤◌, ◌⊎◌, List, [], ◌∷◌, ◌++◌, map, length, take, drop, get_or, suc, refl, sym, subst, ◌∙◌, inl, inr, arith, take_all}
+use Rattle.std.proofs.Common.{◌≡◌, ℕ, ◌+◌, ◌-◌, ◌<◌, ◌≤◌, List, [], ◌∷◌, ◌++◌, length, take, drop, get_or, suc, refl, sym, subst, ◌∙◌, inl, inr, arith}
 use Rattle.std.specs.List.{AllByRecursion}
-use Rattle.std.specs.declared.result.Result.TheVariants.{Ok, Err}
+use Rattle.std.specs.declared.result.Result.TheVariants.{Ok}
 use Rattle.tree_fs.specs.Disk.{Disk}
 use Rattle.tree_fs.specs.Story.{Story, disk_of}
 use Rattle.list_laws.proofs.Alls.{all_more}
@@ -12,7 +12,7 @@ use Rattle.stage_scan.specs.Walks.{IsScan}
 use Rattle.command_steps.specs.declared.limits.Limits.{Limits}
 use Rattle.command_steps.specs.declared.stop.Stop.{Stop}
 use Rattle.command_steps.specs.Profiles.{HasProfile, enabled_ids}
-use Rattle.command_steps.specs.Scans.{IsCounted, CountTogether, HaveNoFault, IsScanFault, IsTurned, AreScans}
+use Rattle.command_steps.specs.Scans.{IsCounted, CountTogether, HaveNoFault, IsScanFault, IsTurned}
 use Rattle.command_steps.specs.Steps.{scans}
 use Rattle.command_steps.specs.Orders.{IsWhy, Takes}
 

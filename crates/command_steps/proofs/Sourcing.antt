@@ -1,6 +1,6 @@
 -- Winners and their sources, by the scans and sources alone.
-use Rattle.std.proofs.Common.{◌≡◌, ◌⊎◌, ℕ, zero, suc, Bool, true, false, cond, List, [], ◌∷◌, ◌++◌, map, IsSome, is_some, slice_get, refl, sym, ap, ◌∙◌, inl, inr, subst}
-use Rattle.std.specs.List.{AllByRecursion, Contains, IsDistinct}
+use Rattle.std.proofs.Common.{◌≡◌, ◌⊎◌, ℕ, zero, suc, Bool, true, false, cond, List, [], ◌∷◌, map, IsSome, is_some, slice_get, refl, sym, ap, ◌∙◌, inl, inr, subst}
+use Rattle.std.specs.List.{Contains, IsDistinct}
 use Rattle.std.specs.Prelude.{nat_eq}
 use Rattle.std.specs.Cmp.Lexicographic.{pointwise}
 use Rattle.std.specs.Str.{bytes_eq}

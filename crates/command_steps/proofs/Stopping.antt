@@ -1,21 +1,20 @@
 -- From the errors of calls to why a step stops a command.
-use Rattle.std.proofs.Common.{◌≡◌, ◌≢◌, ◌⊎◌, ℕ, ◌<◌, ◌≤◌, List, [], ◌∷◌, length, refl, sym, ap, ◌∙◌, subst, inl, inr}
+use Rattle.std.proofs.Common.{◌≡◌, ◌≢◌, ◌⊎◌, ℕ, ◌≤◌, List, [], ◌∷◌, length, refl, sym, ap, ◌∙◌, subst, inl, inr}
 use Rattle.std.specs.Prelude.{Ok, Err, option_map}
 use Rattle.std.specs.declared.option.Option.{Option}
 use Rattle.std.specs.declared.option.Option.TheVariants.{None, Some}
 use Rattle.std.specs.declared.result.Result.{Result}
 use Rattle.std.specs.Result.{result_ok}
 use Rattle.tree_fs.specs.declared.name.Kind.TheVariants.{File}
-use Rattle.tree_fs.specs.declared.place.Place.{Place}
-use Rattle.tree_fs.specs.Spot.{Spot, spot_of}
-use Rattle.tree_fs.specs.Disk.{Disk, Value, none, file, odd, kind_of, IsFile, IsValid}
+use Rattle.tree_fs.specs.Spot.{Spot}
+use Rattle.tree_fs.specs.Disk.{Disk, Value, none, file, odd, kind_of, IsValid}
 use Rattle.tree_fs.specs.Parts.{bytes_at, bytes_of}
 use Rattle.tree_fs.specs.Story.{Story, disk_of}
 use Rattle.tree_fs.proofs.Disks.{file-no_folder}
 use Rattle.tree_fs.proofs.KindOf.{kind-file, file-kind}
 use Rattle.profile_toml.specs.declared.error.ProfileError.{ProfileError}
 use Rattle.profile_toml.specs.declared.error.ProfileError.TheVariants as read
-use Rattle.profile_toml.specs.Records.{ProfileData, RuleData}
+use Rattle.profile_toml.specs.Records.{ProfileData}
 use Rattle.profile_toml.specs.Plain.{default_value}
 use Rattle.profile_toml.specs.Profiles.{profile_of}
 use Rattle.mod_rules.specs.declared.error.RuleError.{RuleError}
@@ -35,16 +34,15 @@ use Rattle.intent_journal.specs.declared.error.IntentError.{IntentError}
 use Rattle.intent_journal.specs.declared.error.IntentError.TheVariants as bad
 use Rattle.intent_journal.specs.Found.{IsNoIntent}
 use Rattle.desk_model.specs.Places.{profile_spot, manifest_spot}
-use Rattle.desk_model.specs.Records.{Recorded, nothing, recorded, recorded_by, read_as, text_by, profile_text, manifest_of, rows_on, rows_of}
-use Rattle.desk_model.specs.Outcome.{recorded_or_none}
+use Rattle.desk_model.specs.Records.{nothing, recorded_by, read_as, text_by, profile_text, rows_on, rows_of}
 use Rattle.command_steps.specs.declared.limits.Limits.{Limits}
 use Rattle.command_steps.specs.declared.stop.Stop.{Stop}
 use Rattle.command_steps.specs.declared.stop.Stop.TheVariants.{Refused, RecoverFirst, TreeFault, Memory}
 use Rattle.command_steps.specs.Stops.{IsFault, IsTold, profile_stop, rule_stop, scan_stop, manifest_stop, change_stop, intent_stop}
 use Rattle.command_steps.specs.Mods.{ListsMods}
-use Rattle.command_steps.specs.Profiles.{ReadsAs, ReadsProfile, HasProfile, IsReadFault, IsReadStop}
+use Rattle.command_steps.specs.Profiles.{ReadsAs, ReadsProfile, HasProfile, IsReadStop}
 use Rattle.command_steps.specs.Scans.{IsTurned}
-use Rattle.command_steps.specs.Manifests.{HasManifest, HasManifestFault, manifest_size}
+use Rattle.command_steps.specs.Manifests.{HasManifest, manifest_size}
 use Rattle.command_steps.specs.Steps.{rules, profile, manifest, changes, intent}
 use Rattle.command_steps.specs.Orders.{IsWhy}
 

@@ -1,10 +1,9 @@
 -- What the functions that look give: facts of the values alone, and facts of the disk.
-use Rattle.std.specs.Prelude.{◌≡◌, ℕ, List, length, map, nat_eq}
+use Rattle.std.specs.Prelude.{◌≡◌, length, map, nat_eq}
 use Rattle.std.specs.List.{AllByRecursion, IsDistinct}
 use Rattle.std.specs.Cmp.Lexicographic.{pointwise}
 use Rattle.rel_paths.specs.Names.{IsFreePath}
 use Rattle.tree_fs.specs.Disk.{Disk}
-use Rattle.load_order.specs.Orders.{IsLawful}
 use Rattle.winner_table.specs.Winners.{AreWinners, HasEachOnce, paths_of}
 use Rattle.winner_table.specs.Folders.{AreApart}
 use Rattle.deploy_plan.specs.Sources.{AreSources}

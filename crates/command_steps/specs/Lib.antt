@@ -5,6 +5,7 @@ pub mod Scans
 pub mod Looks
 pub mod Manifests
 pub mod Plans
+pub mod Inputs
 pub mod Steps
 pub mod Orders
 pub mod Found

@@ -1,5 +1,5 @@
 -- The manifest of a disk.
-use Rattle.std.specs.Prelude.{◌≡◌, ℕ, List, Err, length}
+use Rattle.std.specs.Prelude.{◌≡◌, ℕ, Err, length}
 use Rattle.std.specs.declared.option.Option.{Option}
 use Rattle.tree_fs.specs.Disk.{Disk, IsFile}
 use Rattle.tree_fs.specs.Parts.{bytes_at}

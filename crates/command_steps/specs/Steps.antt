@@ -21,6 +21,8 @@ use Rattle.winner_table.specs.declared.wins.WinRow.{WinRow}
 use Rattle.winner_table.specs.Folders.{IsLeastFolder}
 use Rattle.manifest_json.specs.declared.error.ManifestError.{ManifestError}
 use Rattle.manifest_json.specs.declared.manifest.Manifest.{Manifest}
+use Rattle.change_choices.specs.declared.choices.Choices.{Choices}
+use Rattle.change_choices.specs.Choice.{choice}
 use Rattle.change_detect.specs.Refusals.{first_blocked}
 use Rattle.intent_json.specs.declared.intent.Intent.{Intent as IntentValue}
 use Rattle.intent_journal.specs.declared.error.ReadyError.{ReadyError}
@@ -36,10 +38,14 @@ use Rattle.deploy_plan.specs.Refusals.{IsPlanRefusal, IsRefusal, NoRefusal}
 use Rattle.purge_run.specs.declared.error.PurgeError.{PurgeError}
 use Rattle.purge_run.specs.Refusals as purge
 use Rattle.purge_run.specs.Refusals.{IsPurgeRefusal}
+use Rattle.change_settle.specs.declared.error.SettleError.{SettleError}
+use Rattle.change_settle.specs.Refusals as settle
+use Rattle.change_settle.specs.Refusals.{IsSettleRefusal}
 use Rattle.profile_edit.specs.declared.edit.Edit.{Edit}
 use Rattle.profile_edit.specs.declared.error.EditError.{EditError}
 use Rattle.profile_edit.specs.Edits.{edit_fault}
 use Rattle.answer_lines.specs.Lists.{id_of}
+use Rattle.answer_lines.specs.declared.refusal.InputRefusal.{InputRefusal}
 use Rattle.answer_lines.specs.declared.refusal.Refusal.TheVariants as group
 use Rattle.answer_lines.specs.declared.refusal.PlanRefusal.TheVariants.{Blocked}
 use Rattle.answer_lines.specs.declared.refusal.ProfileRefusal.TheVariants.{TooManyMods, TooLong}
@@ -48,12 +54,13 @@ use Rattle.answer_lines.specs.declared.refusal.RecoveryRefusal.TheVariants.{BadI
 use Rattle.command_steps.specs.declared.limits.Limits.{Limits}
 use Rattle.command_steps.specs.declared.stop.Stop.{Stop}
 use Rattle.command_steps.specs.declared.stop.Stop.TheVariants.{Refused, RecoverFirst}
-use Rattle.command_steps.specs.Stops.{IsTold, rule_stop, win_stop, manifest_stop, plan_stop, ready_stop, purge_stop, edit_stop}
+use Rattle.command_steps.specs.Stops.{IsTold, rule_stop, win_stop, manifest_stop, plan_stop, ready_stop, purge_stop, settle_stop, edit_stop}
 use Rattle.command_steps.specs.Profiles.{IsReadFault, HasProfile, enabled_ids, bases_of, IsGraphOf, IsOrderOf}
 use Rattle.command_steps.specs.Scans.{HaveNoFault, IsFirstScanFault, AreScans, HaveTargets, IsFirstTargetLong}
 use Rattle.command_steps.specs.Looks.{Look, IsLook, AreWins, HasWins, placed}
 use Rattle.command_steps.specs.Manifests.{HasManifest, HasManifestFault, manifest_size}
-use Rattle.command_steps.specs.Plans.{HasPlan, HasPurgePlan, IsIdleOn}
+use Rattle.command_steps.specs.Inputs.{IsAnswered, IsInputRefusal}
+use Rattle.command_steps.specs.Plans.{HasPlan, HasPurgePlan, HasSettlePlan, IsIdleOn}
 
 -- the steps that a command takes before it does its work
 pub data Step : Type 0 where
@@ -89,6 +96,12 @@ pub data Step : Type 0 where
   purged : Step
   -- the text of its intent isn't too long
   purge_fits : Step
+  -- each line of this input is an answer about a change
+  answers : List ℕ → Step
+  -- nothing is in the way of a settlement by these choices
+  settled : Choices → Step
+  -- the text of its intent isn't too long
+  settle_fits : Choices → Step
   -- the edit of the profile can be made
   edit : Edit → Step
 
@@ -122,6 +135,11 @@ Passes fits limits d =
 Passes purged limits d = purge.NoRefusal d (rows_on d)
 Passes purge_fits limits d =
     (plan : Plan) × HasPurgePlan d plan
+    × (IsIdleOn d plan ⊎ (length_fault plan limits.text ≡ None))
+Passes (answers input) limits d = IsAnswered d input
+Passes (settled choices) limits d = settle.NoRefusal (choice choices) d (rows_on d)
+Passes (settle_fits choices) limits d =
+    (plan : Plan) × HasSettlePlan choices d plan
     × (IsIdleOn d plan ⊎ (length_fault plan limits.text ≡ None))
 Passes (edit e) limits d =
     (p : ProfileData) × HasProfile d p × (edit_fault limits.mods p e ≡ None)
@@ -174,6 +192,15 @@ Refuses purged limits d stop =
 Refuses purge_fits limits d stop =
     (plan : Plan) × HasPurgePlan d plan × (¬ IsIdleOn d plan) × (error : ReadyError)
     × (length_fault plan limits.text ≡ Some error) × (stop ≡ ready_stop error)
+Refuses (answers input) limits d stop =
+    (refusal : InputRefusal) × IsInputRefusal d input refusal
+    × (stop ≡ Refused (group.Input refusal))
+Refuses (settled choices) limits d stop =
+    (error : SettleError) × settle.IsRefusal error
+    × IsSettleRefusal (choice choices) d (rows_on d) error × (stop ≡ settle_stop error)
+Refuses (settle_fits choices) limits d stop =
+    (plan : Plan) × HasSettlePlan choices d plan × (¬ IsIdleOn d plan) × (error : ReadyError)
+    × (length_fault plan limits.text ≡ Some error) × (stop ≡ ready_stop error)
 Refuses (edit e) limits d stop =
     (p : ProfileData) × HasProfile d p × (error : EditError)
     × (edit_fault limits.mods p e ≡ Some error) × (stop ≡ edit_stop error)
@@ -196,6 +223,9 @@ next planned s = s
 next fits s = s
 next purged s = s
 next purge_fits s = s
+next (answers input) s = s
+next (settled choices) s = s
+next (settle_fits choices) s = s
 next (edit e) s = s
 
 -- of a step that gives no value

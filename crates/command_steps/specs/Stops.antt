@@ -22,6 +22,8 @@ use Rattle.deploy_plan.specs.declared.error.PlanError.{PlanError}
 use Rattle.deploy_plan.specs.declared.error.PlanError.TheVariants as plan
 use Rattle.purge_run.specs.declared.error.PurgeError.{PurgeError}
 use Rattle.purge_run.specs.declared.error.PurgeError.TheVariants as purge
+use Rattle.change_settle.specs.declared.error.SettleError.{SettleError}
+use Rattle.change_settle.specs.declared.error.SettleError.TheVariants as settle
 use Rattle.profile_edit.specs.declared.error.EditError.{EditError}
 use Rattle.profile_edit.specs.declared.error.EditError.TheVariants as edit
 use Rattle.answer_lines.specs.declared.refusal.EditRefusal.TheVariants.{NoMod, SameRule, NoRule, NoOverride, KeyTaken, OldProfile}
@@ -121,6 +123,12 @@ purge_stop (purge.Blocked place) = Refused (group.Plan (Blocked place))
 purge_stop purge.AsideFull = Refused (group.Plan AsideFull)
 purge_stop purge.Failed = TreeFault
 purge_stop purge.Memory = Memory
+
+abbrev pub settle_stop : SettleError → Stop
+settle_stop (settle.Blocked place) = Refused (group.Plan (Blocked place))
+settle_stop settle.AsideFull = Refused (group.Plan AsideFull)
+settle_stop settle.Failed = TreeFault
+settle_stop settle.Memory = Memory
 
 abbrev pub edit_stop : EditError → Stop
 edit_stop (edit.TooMany count) = Refused (group.Profile (TooManyMods count))

@@ -1,8 +1,9 @@
 // What others changed since the last deployment.
-ghost use Rattle.std.specs.Prelude.{◌≡◌, ◌∷◌, []};
+ghost use Rattle.std.specs.Prelude.{◌≡◌, ◌∷◌, [], IfOk};
 ghost use Rattle.fault_count.specs.Causes.{HasCause};
 ghost use Rattle.tree_fs.specs.Story.{disk_of};
-ghost use Rattle.change_detect.specs.Changes.{changes_by};
+ghost use Rattle.manifest_json.specs.Paths.{AreRising};
+ghost use Rattle.change_detect.specs.Changes.{changes_by, change_paths};
 ghost use Rattle.change_detect.specs.Classes.{class_of};
 ghost use Rattle.desk_model.specs.Records.{rows_on};
 ghost use Rattle.command_steps.specs.declared.limits.Limits.{Limits};
@@ -30,6 +31,7 @@ pub fn changes_of<T: Tree>(
         (λ found. found.items
         ≡ changes_by (class_of (disk_of (T.story tree.old))) (rows_on (disk_of (T.story tree.old))))
         result }
+    ensures order { IfOk result (λ found. AreRising (change_paths found.items)) }
     ensures same { T.tells → T.story tree.new ≡ T.story tree.old }
     ensures cause { HasCause TreeFault (T.faults tree.old) (T.faults tree.new) result }
 {

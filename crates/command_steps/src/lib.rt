@@ -2,7 +2,8 @@
 //!
 //! Each step is one function: it answers what it found, or why the command stops. The definitions of
 //! what passes a step, and how it refuses, are in `specs/Steps.antt`; a step looks at the disk and
-//! the limits alone. No step but the barrier changes the disk.
+//! the limits alone, the step `answers` at an input too, which `choice_lines` reads. No step but the
+//! barrier changes the disk.
 #![tactic(auto)]
 
 mod changes;
@@ -20,6 +21,7 @@ mod plan;
 mod profile;
 mod purge;
 mod scans;
+mod settle;
 mod stop;
 mod targets;
 mod winners;
@@ -38,6 +40,7 @@ pub use plan::plan_of;
 pub use profile::profile_of;
 pub use purge::purge_of;
 pub use scans::scan_enabled;
+pub use settle::settle_of;
 pub use stop::Stop;
 pub use targets::{PlacedScans, place_scans};
 pub use winners::winners_of;

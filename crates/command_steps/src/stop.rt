@@ -1,6 +1,7 @@
 // Why a command stopped before its work was done.
 ghost use Rattle.std.specs.Prelude.{◌≡◌};
-ghost use Rattle.command_steps.specs.Stops.{tree_stop, profile_stop, rule_stop, win_stop, manifest_stop, change_stop, intent_stop, plan_stop, ready_stop, purge_stop, edit_stop};
+ghost use Rattle.command_steps.specs.Stops.{tree_stop, profile_stop, rule_stop, win_stop, manifest_stop, change_stop};
+ghost use Rattle.command_steps.specs.Stops.{intent_stop, plan_stop, ready_stop, purge_stop, settle_stop, edit_stop};
 ghost use Rattle.command_steps.specs.declared.stop.Stop.TheVariants.{Memory};
 
 use answer_lines::{
@@ -8,6 +9,7 @@ use answer_lines::{
     RuleRefusal, ScanRefusal,
 };
 use change_detect::ChangeError;
+use change_settle::SettleError;
 use deploy_plan::PlanError;
 use intent_journal::{IntentError, ReadyError};
 use manifest_json::ManifestError;
@@ -194,6 +196,21 @@ impl From<PurgeError> for Stop {
             PurgeError::AsideFull => Stop::Refused(Refusal::Plan(PlanRefusal::AsideFull)),
             PurgeError::Failed => Stop::TreeFault,
             PurgeError::Memory => Stop::Memory,
+        }
+    }
+}
+
+impl From<SettleError> for Stop {
+    ghost from_gives = { λ x e. e ≡ settle_stop x };
+
+    fn from(error: SettleError) -> Self {
+        match error {
+            SettleError::Blocked(place) => {
+                Stop::Refused(Refusal::Plan(PlanRefusal::Blocked(place)))
+            }
+            SettleError::AsideFull => Stop::Refused(Refusal::Plan(PlanRefusal::AsideFull)),
+            SettleError::Failed => Stop::TreeFault,
+            SettleError::Memory => Stop::Memory,
         }
     }
 }

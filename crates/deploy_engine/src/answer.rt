@@ -2,7 +2,7 @@
 ghost use Rattle.std.specs.Prelude.{◌≡◌};
 ghost use Rattle.deploy_engine.specs.Statuses.{status_of};
 
-use crate::Refusal;
+use answer_lines::Refusal;
 
 /// How a command ended.
 #[derive(Drop)]

@@ -1,129 +1,256 @@
-// One command.
-ghost use Rattle.std.specs.Prelude.{◌≡◌, ◌≢◌, ◌⊎◌, ◌++◌, ◌≤◌, ℕ, List, map, IfOk, OnOk, OnErr};
-ghost use Rattle.std.specs.String.{string_bytes};
+// One call of the engine.
+ghost use Rattle.std.specs.Prelude.{◌≡◌, ◌≢◌, ◌⊎◌, ◌↔◌, ◌≤◌, ℕ, List, true, IfSome, IsTrue};
+ghost use Rattle.std.specs.Prelude.{Some, Err, IfOk, IfErr, if◌then◌else◌};
+ghost use Rattle.std.specs.Str.Lines.{lines};
 ghost use Rattle.fault_count.specs.Rose.{Rose};
-ghost use Rattle.tree_fs.specs.Story.{Along, disk_of};
-ghost use Rattle.tree_fs.specs.Calls.{HasCause};
-ghost use Rattle.io_edge.specs.Appends.{AppendsPrefix};
-ghost use Rattle.deploy_engine.specs.Words.{IsDeployForm};
-ghost use Rattle.deploy_engine.specs.Mods.{CountsProvided};
-ghost use Rattle.deploy_engine.specs.Refusals.{NoRefusal, IsFirstRefusal};
-ghost use Rattle.deploy_engine.specs.Deployed.{IsDeployed, IsBetween};
-ghost use Rattle.deploy_engine.specs.Lines.{usage_line, deployed_line, refusal_line};
-ghost use Rattle.deploy_engine.specs.Answers.{IsGiven, FitsWords, IsCutOff};
-ghost use Rattle.deploy_engine.specs.Decisions.{CanLinkAll};
-ghost use Rattle.deploy_engine.specs.Done.{answer_of, line_of, IsDone, IsCarriedOut, SuitsWords, IsSpoken};
+ghost use Rattle.fault_count.specs.Causes.{HasCause};
+ghost use Rattle.tree_fs.specs.Disk.{Disk};
+ghost use Rattle.tree_fs.specs.Story.{Story, disk_of};
+ghost use Rattle.change_choices.specs.declared.choices.Choices.{Choices};
+ghost use Rattle.command_words.specs.declared.command.Command.{Command};
+ghost use Rattle.command_words.specs.Paths.{SetsUserPath};
+ghost use Rattle.command_words.specs.Words.{texts};
+ghost use Rattle.answer_lines.specs.Told.{fixed_line};
+ghost use Rattle.command_steps.specs.declared.stop.Stop.{Stop};
+ghost use Rattle.command_steps.specs.Orders.{AllPass, IsFirst};
+ghost use Rattle.deploy_engine.specs.Words.{command_said, TakesInput};
+ghost use Rattle.deploy_engine.specs.Works.{NeverGivesUp};
+ghost use Rattle.deploy_engine.specs.Table.{work_of};
+ghost use Rattle.deploy_engine.specs.Carried.{Carried};
+ghost use Rattle.deploy_engine.specs.Batches.{Batched};
+ghost use Rattle.deploy_engine.specs.Answers.{sink_answer, SaysOf, Ends, Caused, IsSpoken, IsThis, IsSaid, IsAlong};
+ghost use Rattle.deploy_engine.specs.Answers.{OnlyLooks, IsDoneOrMemory, answer_of};
+ghost use Rattle.deploy_engine.specs.Answers.{AreTold, ReadsInput};
 
-use crate::decide::{Decision, decide};
-use crate::lines::{deployed_text, refusal_text};
-use crate::links::link_wins;
-use crate::winners::Win;
-use crate::words::is_deploy;
-use crate::{Answer, Limits, Refusal};
+use crate::batch::run_batch;
+use crate::by_input::settle_by_input;
+use crate::commands::Report;
+use crate::commands::check::tell_changes;
+use crate::commands::conflicts::tell_conflicts;
+use crate::commands::deploy::deploy;
+use crate::commands::edit::change_profile;
+use crate::commands::order::tell_order;
+use crate::commands::plan::tell_plan;
+use crate::commands::purge::purge;
+use crate::commands::recover::recover_left;
+use crate::commands::sample::tell_sample;
+use crate::commands::settle::settle;
+use crate::commands::status::tell_status;
+use crate::commands::winners::tell_winners;
+use crate::words::command_of;
+use crate::{Answer, Limits};
+use answer_lines::{FixedLine, Refusal, refusal_line};
+use change_choices::Choices;
+use command_steps::Stop;
+use command_words::Command;
 use io_edge::{IoError, Sink, Source, push_all};
-use std::alloc::{AllocError, Global};
-use tree_fs::{Tree, TreeError};
+use std::alloc::Global;
+use tree_fs::Tree;
 
-// What a command did, before its line is written.
-#[derive(Drop)]
-enum Done {
-    /// The words are no command.
-    NoCommand,
-    /// So many paths are deployed.
-    Deployed(u64),
-    /// The command was refused.
-    Turned(Refusal),
-}
-
-// Links the winners' files, and counts them.
-fn link<T: Tree>(tree: &mut T, wins: &[Win]) -> Result<u64, TreeError>
-    requires { T.tells → CanLinkAll (disk_of (T.story tree.old)) wins.now }
-    ensures linked { T.tells → OnOk result (IsDeployed (disk_of (T.story tree.old)) (disk_of (T.story tree.new))) }
-    ensures count { T.tells → IfOk result (CountsProvided (disk_of (T.story tree.old))) }
-    ensures stops { T.tells → Along (IsBetween (disk_of (T.story tree.old))) (T.story tree.old) (T.story tree.new) }
-    ensures cause { HasCause (T.faults tree.old) (T.faults tree.new) result }
+fn sink_answer(error: IoError) -> Answer
+    ensures { result ≡ sink_answer error }
 {
-    link_wins(tree, wins)?;
-    Ok(wins.len() as u64)
-}
-
-fn deploy<T: Tree>(alloc: Global, tree: &mut T, most: u32) -> Result<Done, TreeError>
-    ensures done { T.tells → IfOk result (λ done. IsDone most done (T.story tree.old) (T.story tree.new)) }
-    ensures stops { T.tells → Along (IsBetween (disk_of (T.story tree.old))) (T.story tree.old) (T.story tree.new) }
-    ensures suits { IfOk result (λ done. (words : List (List ℕ)) → IsDeployForm words → SuitsWords done words) }
-    ensures cause { HasCause (T.faults tree.old) (T.faults tree.new) result }
-{
-    match decide(alloc, tree, most)? {
-        Decision::Refuse(refusal) => Ok(Done::Turned(refusal)),
-        Decision::Link(wins) => Ok(Done::Deployed(link(tree, &wins)?)),
+    match error {
+        IoError::Failed => Answer::SinkFault,
+        IoError::Memory => Answer::Memory,
     }
 }
 
-fn carry_out<T: Tree>(
-    alloc: Global,
-    words: &[&str],
-    limits: &Limits,
-    tree: &mut T,
-) -> Result<Done, TreeError>
-    ensures done { T.tells → IfOk result (λ done. IsCarriedOut limits.now.entries done (T.story tree.old) (T.story tree.new)) }
-    ensures stops { T.tells → Along (IsBetween (disk_of (T.story tree.old))) (T.story tree.old) (T.story tree.new) }
-    ensures suits { IfOk result (λ done. SuitsWords done (map (λ w. w.now) words.now)) }
-    ensures fault { OnErr result (IsDeployForm (map (λ w. w.now) words.now)) }
-    ensures cause { HasCause (T.faults tree.old) (T.faults tree.new) result }
-{
-    if !is_deploy(words) {
-        return Ok(Done::NoCommand);
-    }
-    deploy(alloc, tree, limits.entries)
-}
-
-fn text_of(alloc: Global, done: &Done) -> Result<String, AllocError>
-    ensures { IfOk result (λ line. string_bytes line ≡ line_of done.now) }
-{
-    match done {
-        Done::NoCommand => "usage\n".to_string(alloc),
-        Done::Deployed(count) => deployed_text(alloc, *count),
-        Done::Turned(refusal) => refusal_text(alloc, refusal),
-    }
-}
-
-fn answer(done: Done) -> Answer
-    ensures { result ≡ answer_of done }
-{
-    match done {
-        Done::NoCommand => Answer::Usage,
-        Done::Deployed(_) => Answer::Ok,
-        Done::Turned(refusal) => Answer::Refused(refusal),
-    }
-}
-
-// Writes the line of what was done.
-fn speak<K: Sink>(alloc: Global, done: Done, sink: &mut K) -> Answer
-    ensures spoken { IsSpoken done result }
-    ensures written { K.tells → result ≡ answer_of done → K.written sink.new ≡ K.written sink.old ++ line_of done }
-    ensures cut_off { K.tells → (result ≡ Answer.SinkFault) ⊎ (result ≡ Answer.Memory) → AppendsPrefix (K.written sink.old) (K.written sink.new) (line_of done) }
-    ensures fault { result ≡ Answer.SinkFault → Rose (K.faults sink.old) (K.faults sink.new) }
+// Writes a text, and answers so.
+fn write_text<K: Sink>(text: &[u8], answer: Answer, sink: &mut K) -> Answer
+    requires { IsSpoken answer }
+    ensures ends { Ends (IsThis answer text.now)
+        K.tells (K.written sink.old) (K.written sink.new) result }
+    ensures causes { Caused ⊥ ⊥ (Rose (K.faults sink.old) (K.faults sink.new)) result }
     ensures later { K.faults sink.old ≤ K.faults sink.new }
 {
-    let Ok(line) = text_of(alloc, &done) else {
-        return Answer::Memory;
-    };
-    match push_all(sink, line.as_bytes()) {
-        Ok(()) => answer(done),
-        Err(IoError::Failed) => Answer::SinkFault,
-        Err(IoError::Memory) => Answer::Memory,
+    match push_all(sink, text) {
+        Ok(()) => answer,
+        Err(error) => sink_answer(error),
     }
 }
 
-/// Carries out the command that the words are, and prints its line.
+fn write_fixed<K: Sink>(line: FixedLine, answer: Answer, sink: &mut K) -> Answer
+    requires { IsSpoken answer }
+    ensures ends { Ends (IsThis answer (fixed_line line))
+        K.tells (K.written sink.old) (K.written sink.new) result }
+    ensures causes { Caused ⊥ ⊥ (Rose (K.faults sink.old) (K.faults sink.new)) result }
+    ensures later { K.faults sink.old ≤ K.faults sink.new }
+{
+    write_text(line.text().as_bytes(), answer, sink)
+}
+
+pub(crate) fn write_refusal<K: Sink>(alloc: Global, refusal: Refusal, sink: &mut K) -> Answer
+    ensures ends { Ends (IsSaid (Err (Stop.Refused refusal)))
+        K.tells (K.written sink.old) (K.written sink.new) result }
+    ensures causes { Caused ⊥ ⊥ (Rose (K.faults sink.old) (K.faults sink.new)) result }
+    ensures later { K.faults sink.old ≤ K.faults sink.new }
+{
+    let Ok(line) = refusal_line(alloc, &refusal) else {
+        return Answer::Memory;
+    };
+    write_text(line.as_slice(), Answer::Refused(refusal), sink)
+}
+
+// How a command answers that did its work.
+fn done_answer(changes: bool) -> Answer
+    ensures is { result ≡ (if changes then Answer.Changes else Answer.Ok) }
+    ensures spoken { IsSpoken result }
+{
+    if changes { Answer::Changes } else { Answer::Ok }
+}
+
+/// Tells what came of a command.
+pub(crate) fn tell<K: Sink>(alloc: Global, came: Result<Report, Stop>, sink: &mut K) -> Answer
+    ensures ends { Ends (IsSaid came) K.tells (K.written sink.old) (K.written sink.new) result }
+    ensures causes { Caused (came ≡ Err Stop.TreeFault) ⊥
+        (Rose (K.faults sink.old) (K.faults sink.new)) result }
+    ensures later { K.faults sink.old ≤ K.faults sink.new }
+{
+    match came {
+        Ok(report) => {
+            let answer = done_answer(report.changes);
+            write_text(report.lines.as_slice(), answer, sink)
+        }
+        Err(Stop::Refused(refusal)) => write_refusal(alloc, refusal, sink),
+        Err(Stop::RecoverFirst) => write_fixed(FixedLine::RecoverFirst, Answer::RecoverFirst, sink),
+        Err(Stop::TreeFault) => Answer::TreeFault,
+        Err(Stop::Memory) => Answer::Memory,
+    }
+}
+
+// Does what a command is.
+fn carry_out<T: Tree>(
+    alloc: Global,
+    command: Command,
+    limits: &Limits,
+    tree: &mut T,
+) -> Result<Report, Stop>
+    requires no_input { ¬ TakesInput (Some command) }
+    requires user_path { SetsUserPath command }
+    ensures carried { T.tells → (input : List ℕ) →
+        Carried (work_of input command) limits.now (T.story tree.old) (T.story tree.new) result }
+    ensures cause { HasCause Stop.TreeFault (T.faults tree.old) (T.faults tree.new) result }
+{
+    match command {
+        Command::Order => tell_order(alloc, limits, tree),
+        Command::Winners => tell_winners(alloc, limits, tree),
+        Command::Conflicts => tell_conflicts(alloc, limits, tree),
+        Command::Plan => tell_plan(alloc, limits, tree),
+        Command::Deploy => deploy(alloc, limits, tree),
+        Command::Check => tell_changes(alloc, limits, tree),
+        Command::Status => tell_status(alloc, limits, tree),
+        Command::Settle {
+            choices,
+            from_input: false,
+        } => settle(alloc, choices, limits, tree),
+        Command::Purge => purge(alloc, limits, tree),
+        Command::Recover => recover_left(alloc, tree),
+        Command::Edit(edit) => change_profile(alloc, &edit, limits, tree),
+        Command::Sample(number) => tell_sample(alloc, number),
+        _ => unreachable!(),
+    }
+}
+
+/// Does one command that takes no input, and tells of it, or tells that it is none.
+pub(crate) fn run_one<T: Tree, K: Sink>(
+    alloc: Global,
+    command: Option<Command>,
+    limits: &Limits,
+    tree: &mut T,
+    sink: &mut K,
+) -> Answer
+    requires no_input { ¬ TakesInput command }
+    requires user_path { IfSome command SetsUserPath }
+    ensures ends { (input : List ℕ) → Ends
+        (SaysOf T.tells input command limits.now (T.story tree.old) (T.story tree.new))
+        K.tells (K.written sink.old) (K.written sink.new) result }
+    ensures stops { T.tells → (input : List ℕ)
+        → IsAlong input command (T.story tree.old) (T.story tree.new) }
+    ensures looks { T.tells → OnlyLooks command → T.story tree.new ≡ T.story tree.old }
+    ensures causes { Caused (Rose (T.faults tree.old) (T.faults tree.new)) ⊥
+        (Rose (K.faults sink.old) (K.faults sink.new)) result }
+    ensures tree_later { T.faults tree.old ≤ T.faults tree.new }
+    ensures sink_later { K.faults sink.old ≤ K.faults sink.new }
+{
+    match command {
+        Some(command) => {
+            let came = carry_out(alloc, command, limits, tree);
+            tell(alloc, came, sink)
+        }
+        None => write_fixed(FixedLine::Usage, Answer::Usage, sink),
+    }
+}
+
+fn is_batch(command: &Option<Command>) -> bool
+    ensures { IsTrue result ↔ (command.now ≡ Some Command.Batch) }
+{
+    match command {
+        Some(Command::Batch) => true,
+        _ => false,
+    }
+}
+
+// The choices of a settlement by input, or the command where it is another.
+fn choices_by_input(command: Option<Command>) -> Result<Choices, Option<Command>>
+    ensures settles { IfOk result (λ choices. command ≡ Some (Command.Settle choices true)) }
+    ensures other { IfErr result (λ same. same ≡ command) }
+    ensures no_input { IfErr result (λ same. same ≢ Some Command.Batch → ¬ TakesInput same) }
+{
+    match command {
+        Some(
+            Command::Settle {
+                choices,
+                from_input: true,
+            },
+        ) => Ok(choices),
+        other => Err(other),
+    }
+}
+
+// Does one command that isn't a list of commands, and tells of it, or tells that it is none.
+fn run_alone<T: Tree, S: Source, K: Sink>(
+    alloc: Global,
+    command: Option<Command>,
+    limits: &Limits,
+    tree: &mut T,
+    source: &mut S,
+    sink: &mut K,
+) -> Answer
+    requires no_batch { command ≢ Some Command.Batch }
+    requires user_path { IfSome command SetsUserPath }
+    ensures ends { Ends
+        (SaysOf (AreTold T.tells S.tells command) (S.left source.old) command limits.now
+        (T.story tree.old) (T.story tree.new))
+        K.tells (K.written sink.old) (K.written sink.new) result }
+    ensures stops { AreTold T.tells S.tells command
+        → IsAlong (S.left source.old) command (T.story tree.old) (T.story tree.new) }
+    ensures looks { T.tells → OnlyLooks command → T.story tree.new ≡ T.story tree.old }
+    ensures causes { Caused (Rose (T.faults tree.old) (T.faults tree.new))
+        (TakesInput command × Rose (S.faults source.old) (S.faults source.new))
+        (Rose (K.faults sink.old) (K.faults sink.new)) result }
+    ensures input { (choices : Choices) → command ≡ Some (Command.Settle choices true)
+        → ReadsInput T.tells S.tells (S.left source.new)
+        (T.story tree.old) (T.story tree.new) result }
+    ensures alone { ¬ TakesInput command → source.new ≡ source.old }
+{
+    match choices_by_input(command) {
+        Ok(choices) => settle_by_input(alloc, choices, limits, tree, source, sink),
+        Err(command) => run_one(alloc, command, limits, tree, sink),
+    }
+}
+
+/// Carries out the command that the words say, and prints its lines.
 ///
-/// `deploy` links the winner's file of each path that a mod provides into the game folder. The
-/// mods are the folders of `stage` whose names are mods' ids; of the mods that have a path the
-/// last in byte order wins it. All mods together may have `limits.entries` files and folders; the
-/// other limits aren't looked at, nor is the source. Every other list of words is `Usage`.
+/// Each command is a row of the table `work_of`: the steps at which it may be refused, in their
+/// order, what it leaves and prints, and what a stop in it may find. `batch` does the commands of the
+/// source's lines, whose words single tabs part, up to the first that doesn't answer Ok, whose answer
+/// is the batch's. `settle --from-input` reads the source to its end before it changes anything: each
+/// line has the path of a change, a tab and an action. `sample` makes no call on the tree.
 ///
-/// The line is written last. After `SinkFault` the work is done, and a prefix of the line is
-/// written. After `TreeFault` or `Memory` some links may be there.
+/// Lines are written last. After `SinkFault` the work is done, and a prefix of its lines is written.
+/// After `TreeFault` and `SourceFault` nothing is written. After `Memory` nothing is written, or it
+/// is as after `SinkFault`. Of a batch this is said of its last line.
 pub fn run<T: Tree, S: Source, K: Sink>(
     alloc: Global,
     words: &[&str],
@@ -132,38 +259,67 @@ pub fn run<T: Tree, S: Source, K: Sink>(
     source: &mut S,
     sink: &mut K,
 ) -> Answer
-    // Which answers there are, and of which words.
-    ensures given { IsGiven result }
-    ensures words { FitsWords result (map (λ w. w.now) words.now) }
+    // What a command did, why, and what was written.
+    ensures ends { let said = command_said (texts words.now) in said ≢ Some Command.Batch → Ends
+        (SaysOf (AreTold T.tells S.tells said) (S.left source.old) said limits.now
+        (T.story tree.old) (T.story tree.new))
+        K.tells (K.written sink.old) (K.written sink.new) result }
 
-    // What was done, and why.
-    ensures deployed { T.tells → result ≡ Answer.Ok → IsDeployed (disk_of (T.story tree.old)) (disk_of (T.story tree.new)) }
-    ensures not_refused { T.tells → result ≡ Answer.Ok → NoRefusal (disk_of (T.story tree.old)) limits.now.entries }
-    ensures refused { T.tells → (refusal : _) → result ≡ Answer.Refused refusal → IsFirstRefusal (disk_of (T.story tree.old)) limits.now.entries refusal }
-    ensures refused_adds_nothing { T.tells → (refusal : _) → result ≡ Answer.Refused refusal → T.story tree.new ≡ T.story tree.old }
-    ensures usage_adds_nothing { T.tells → result ≡ Answer.Usage → T.story tree.new ≡ T.story tree.old }
-    ensures complete { T.tells → IsDeployForm (map (λ w. w.now) words.now) → NoRefusal (disk_of (T.story tree.old)) limits.now.entries → (Rose (T.faults tree.old) (T.faults tree.new) → ⊥) → (Rose (K.faults sink.old) (K.faults sink.new) → ⊥) → (result ≡ Answer.Ok) ⊎ (result ≡ Answer.Memory) }
+    // The same of a batch, line by line.
+    ensures batch { command_said (texts words.now) ≡ Some Command.Batch → Batched
+        T.tells K.tells S.tells limits.now (lines (S.left source.old)) (S.left source.new)
+        (T.story tree.old) (T.story tree.new) (K.written sink.old) (K.written sink.new) result }
 
-    // A stop at any step leaves each place with what it held, or with its winner's file.
-    ensures stops { T.tells → Along (IsBetween (disk_of (T.story tree.old))) (T.story tree.old) (T.story tree.new) }
+    // What a stop finds.
+    ensures stops { let said = command_said (texts words.now) in AreTold T.tells S.tells said
+        → said ≢ Some Command.Batch
+        → IsAlong (S.left source.old) said (T.story tree.old) (T.story tree.new) }
 
-    // The line.
-    ensures deployed_prints { T.tells → K.tells → result ≡ Answer.Ok → (count : ℕ) × CountsProvided (disk_of (T.story tree.old)) count × (K.written sink.new ≡ K.written sink.old ++ deployed_line count) }
-    ensures refused_prints { K.tells → (refusal : _) → result ≡ Answer.Refused refusal → K.written sink.new ≡ K.written sink.old ++ refusal_line refusal }
-    ensures usage_prints { K.tells → result ≡ Answer.Usage → K.written sink.new ≡ K.written sink.old ++ usage_line }
+    // Which commands add no op, whatever they answer.
+    ensures looks { T.tells → OnlyLooks (command_said (texts words.now))
+        → T.story tree.new ≡ T.story tree.old }
 
-    // Faults and want of memory.
-    ensures tree_fault { result ≡ Answer.TreeFault → Rose (T.faults tree.old) (T.faults tree.new) }
-    ensures tree_fault_prints_nothing { result ≡ Answer.TreeFault → sink.new ≡ sink.old }
-    ensures sink_fault { result ≡ Answer.SinkFault → Rose (K.faults sink.old) (K.faults sink.new) }
-    ensures sink_fault_cuts_off { T.tells → K.tells → result ≡ Answer.SinkFault → IsCutOff (map (λ w. w.now) words.now) limits.now.entries (T.story tree.old) (T.story tree.new) (K.written sink.old) (K.written sink.new) }
-    ensures memory { T.tells → K.tells → result ≡ Answer.Memory → (sink.new ≡ sink.old) ⊎ IsCutOff (map (λ w. w.now) words.now) limits.now.entries (T.story tree.old) (T.story tree.new) (K.written sink.old) (K.written sink.new) }
-    ensures source { source.new ≡ source.old }
+    // Whom a fault blames.
+    ensures causes { Caused (Rose (T.faults tree.old) (T.faults tree.new))
+        (TakesInput (command_said (texts words.now))
+        × Rose (S.faults source.old) (S.faults source.new))
+        (Rose (K.faults sink.old) (K.faults sink.new)) result }
+
+    // Where no step refuses and nothing fails.
+    ensures complete { (command : Command) → command_said (texts words.now) ≡ Some command
+        → command ≢ Command.Batch → AreTold T.tells S.tells (Some command)
+        → NeverGivesUp (work_of (S.left source.old) command) (T.story tree.old)
+        → AllPass (work_of (S.left source.old) command).steps limits.now (T.story tree.old)
+        → ¬ Rose (T.faults tree.old) (T.faults tree.new)
+        → (TakesInput (Some command) → ¬ Rose (S.faults source.old) (S.faults source.new))
+        → ¬ Rose (K.faults sink.old) (K.faults sink.new) → IsDoneOrMemory result }
+
+    // Where a step refuses and nothing fails.
+    ensures turned_away { (command : Command) → command_said (texts words.now) ≡ Some command
+        → command ≢ Command.Batch → AreTold T.tells S.tells (Some command)
+        → (stop : Stop) (left : Story)
+        → IsFirst (work_of (S.left source.old) command).steps limits.now
+        (T.story tree.old) stop left
+        → ¬ Rose (T.faults tree.old) (T.faults tree.new)
+        → (TakesInput (Some command) → ¬ Rose (S.faults source.old) (S.faults source.new))
+        → ¬ Rose (K.faults sink.old) (K.faults sink.new)
+        → (result ≡ answer_of stop) ⊎ (result ≡ Answer.Memory) }
+
+    // How far a settlement reads its input, and what it did where that isn't the end.
+    ensures input { (choices : Choices)
+        → command_said (texts words.now) ≡ Some (Command.Settle choices true)
+        → ReadsInput T.tells S.tells (S.left source.new)
+        (T.story tree.old) (T.story tree.new) result }
+
+    // Only a batch and a settlement by input take input.
+    ensures alone { ¬ TakesInput (command_said (texts words.now)) → source.new ≡ source.old }
 {
-    let _ = source;
-    match carry_out(alloc, words, limits, tree) {
-        Ok(done) => speak(alloc, done, sink),
-        Err(TreeError::Failed) => Answer::TreeFault,
-        Err(TreeError::Memory) => Answer::Memory,
+    tree.forget();
+    let Ok(command) = command_of(alloc, words) else {
+        return Answer::Memory;
+    };
+    if is_batch(&command) {
+        return run_batch(alloc, limits, tree, source, sink);
     }
+    run_alone(alloc, command, limits, tree, source, sink)
 }

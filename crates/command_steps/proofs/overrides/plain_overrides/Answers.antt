@@ -1,6 +1,3 @@
-use Rattle.std.proofs.Common.{map, ap, ◌∙◌}
-use Rattle.profile_toml.specs.Plain.{plain_override}
-use Rattle.profile_toml.specs.Records.{OverrideData}
 use Rattle.command_steps.proofs.Winning.{plain_all}
 use Rattle.command_steps.proofs.overrides.plain_overrides.Goals as goal
 

@@ -1,4 +1,4 @@
-use Rattle.std.proofs.Common.{◌≡◌, ◌∙◌, List, map, nat_eq, subst, sym}
+use Rattle.std.proofs.Common.{List, nat_eq, subst, sym}
 use Rattle.std.specs.List.{AllByRecursion, IsDistinct}
 use Rattle.std.specs.Cmp.Lexicographic.{pointwise}
 use Rattle.tree_fs.specs.Disk.{IsFile}

@@ -1,5 +1,3 @@
-use Rattle.std.proofs.Common.{◌∙◌, subst}
-use Rattle.tree_fs.specs.Disk.{kind_of}
 use Rattle.tree_fs.specs.Story.{disk_of}
 use Rattle.command_steps.proofs.ModsFound.{distinct_in_order}
 use Rattle.command_steps.proofs.Stopping.{has_default}

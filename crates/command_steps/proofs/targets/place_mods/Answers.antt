@@ -1,4 +1,4 @@
-use Rattle.std.proofs.Common.{◌≡◌, ℕ, List, ◌++◌, ◌∷◌, [], map, refl, ap, sym, subst, ◌∙◌, rules}
+use Rattle.std.proofs.Common.{ℕ, List, ◌++◌, ◌∷◌, [], map, refl, ap, sym, subst, ◌∙◌}
 use Rattle.std.specs.List.{AllByRecursion}
 use Rattle.std.specs.Map.Iter.{deref_pair}
 use Rattle.std.proofs.lemmas.List.{map-append}
@@ -7,7 +7,7 @@ use Rattle.profile_toml.specs.Records.{ModData}
 use Rattle.stage_scan.specs.Placed.{IsPlaced, HasUserTarget}
 use Rattle.command_steps.specs.Scans.{IsLongStop}
 use Rattle.command_steps.proofs.Orders.{takes_err}
-use Rattle.command_steps.proofs.Placing.{none_placed, placed_on, placed_off, node_in, long_at, all_placed, all_scans, all_sources, all_users, ArePlacedTo}
+use Rattle.command_steps.proofs.Placing.{placed_on, placed_off, node_in, long_at, all_placed, all_scans, all_users, ArePlacedTo}
 use Rattle.command_steps.proofs.targets.place_mods.Goals as goal
 
 pub bounds-scans-node : goal.bounds-scans-node
