@@ -3,7 +3,10 @@ ghost use Rattle.std.specs.Prelude.{List};
 ghost use Rattle.tree_fs.specs.declared.op.Op.{Op};
 ghost use Rattle.tree_fs.specs.Disk.{Disk};
 ghost use Rattle.desk_model.specs.History.{History, CallsKeep, Follows};
-ghost use Rattle.desk_model.specs.Laws.{RestStands, FewerStand, ImagesStand, ImagesAgree, StepsAgree, IntentsChange, MidIsKept, ImagesKeepMid, StopsKeep, StopsKeepPlain, OthersKeep, OthersCarry, SettledRestages, SettledIsClean, DeployedOnce, SettledOnce, PurgedOnce, EditedOnce};
+ghost use Rattle.desk_model.specs.Laws.{RestStands, FewerStand, ImagesStand, ImagesAgree, StepsAgree, IntentsChange};
+ghost use Rattle.desk_model.specs.Laws.{MidIsKept, ImagesKeepMid, StopsKeep, StopsKeepPlain, OthersKeep, OthersCarry};
+ghost use Rattle.desk_model.specs.Laws.{SettledRestages, SettledIsClean, DeployedOnce, SettledOnce, PurgedOnce};
+ghost use Rattle.desk_model.specs.Laws.{EditedOnce};
 
 /// On a disk without an intent, with nothing pending and every file firm, the invariant holds.
 pub fn rest_stands()

@@ -43,17 +43,3 @@ impl FaultCount {
         self.count = self.count.saturating_add(1);
     }
 }
-
-#[cfg(test)]
-mod tests {
-    use super::*;
-
-    #[test]
-    fn a_count_rises_one_by_one(rt: HostRuntime) {
-        let mut count = FaultCount::new();
-        assert_eq!(rt; count.get(), 0);
-        count.raise();
-        count.raise();
-        assert_eq!(rt; count.get(), 2);
-    }
-}

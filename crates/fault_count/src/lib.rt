@@ -2,7 +2,7 @@
 //!
 //! Whoever is handed such an object is told its count, so that an answer that blames the object
 //! can be checked against it. The words for this, which all crates share, stand in specs/. The
-//! test stands beside the count.
+//! test stands in the crate `value_tests`.
 #![tactic(auto)]
 
 mod count;

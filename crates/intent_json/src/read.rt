@@ -8,7 +8,8 @@ ghost use Rattle.move_plan.specs.Tests.{passes};
 ghost use Rattle.intent_json.specs.Places.{place_of, pair_of, set_of};
 ghost use Rattle.intent_json.specs.Forms.{is_bare, is_formed};
 ghost use Rattle.intent_json.specs.Accepted.{IsIntentOf};
-ghost use Rattle.intent_json.specs.Reads.{list_at, manifest_from, phase_of, phase_at, intent_of, has_own_source, has_form, has_manifest_form, is_accepted, intent_in, intent_value};
+ghost use Rattle.intent_json.specs.Reads.{list_at, manifest_from, phase_of, phase_at, intent_of, has_own_source};
+ghost use Rattle.intent_json.specs.Reads.{has_form, has_manifest_form, is_accepted, intent_in, intent_value};
 
 use crate::print::text_in;
 use crate::read_places::{read_pairs, read_places, read_sets};

@@ -1,4 +1,5 @@
-//! The manifest of a deployment: its rows and folders, as JSON text. Its tests stand in `tests`.
+//! The manifest of a deployment: its rows and folders, as JSON text. Tests stand in the crate
+//! `record_tests`.
 #![tactic(auto)]
 
 mod digest;
@@ -12,8 +13,6 @@ mod read_folders;
 mod read_rows;
 mod sources;
 mod spot;
-#[cfg(test)]
-mod tests;
 mod version;
 
 pub use digest::FileDigest;

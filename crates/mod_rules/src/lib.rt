@@ -1,5 +1,5 @@
 //! The rules of a profile's enabled mods: which mods have to load before which, and the first rule
-//! that fails. The tests are in `tests.rt`.
+//! that fails. Tests stand in the crate `winner_tests`.
 #![tactic(auto)]
 
 mod checks;
@@ -7,8 +7,6 @@ mod edges;
 mod error;
 mod graph;
 mod nodes;
-#[cfg(test)]
-mod tests;
 
 pub use checks::check_rules;
 pub use edges::graph_of;

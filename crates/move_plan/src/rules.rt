@@ -1,10 +1,13 @@
 // The first entry of a plan that fails each of the nine rules.
 ghost use Rattle.std.specs.Prelude.{◌≡◌, not, position};
-ghost use Rattle.move_plan.specs.Rules.{in_order, avoids_controls, source_stays, save_stays, keeping, clear_is_used, save_is_back, back_stays, apart};
+ghost use Rattle.move_plan.specs.Rules.{in_order, avoids_controls, source_stays, save_stays, keeping, clear_is_used};
+ghost use Rattle.move_plan.specs.Rules.{save_is_back, back_stays, apart};
 ghost use Rattle.tree_fs.specs.declared.place.Root.TheVariants.{Game};
 ghost use Rattle.tree_fs.specs.Spot.{root_eq};
 ghost use Rattle.move_plan.specs.Entries.{folder, save, set, clear};
-ghost use Rattle.move_plan.specs.Tests.{first_of, none_or, is_free, is_keeping, avoids_controls_test, source_stays_test, keeping_test, save_is_back_test, is_back_of, may_stay, is_saved, back_stays_test, lies_apart, apart_test, moves_some};
+ghost use Rattle.move_plan.specs.Tests.{first_of, none_or, is_free, is_keeping, avoids_controls_test};
+ghost use Rattle.move_plan.specs.Tests.{source_stays_test, keeping_test, save_is_back_test, is_back_of, may_stay};
+ghost use Rattle.move_plan.specs.Tests.{is_saved, back_stays_test, lies_apart, apart_test, moves_some};
 ghost use Rattle.move_plan.specs.Rising.{AreSearchable};
 
 use crate::marks::{first_taken, first_unused};

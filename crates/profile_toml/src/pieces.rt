@@ -1,5 +1,6 @@
 // Values taken out of a table, without a copy.
-ghost use Rattle.std.specs.Prelude.{◌≡◌, List, ℕ, Option, None, Some, [], ◌∷◌, false, IfOk, IfErr, IfSome, length, option_map, string_bytes, if◌then◌else◌};
+ghost use Rattle.std.specs.Prelude.{◌≡◌, List, ℕ, Option, None, Some, [], ◌∷◌, false, IfOk, IfErr, IfSome, length};
+ghost use Rattle.std.specs.Prelude.{option_map, string_bytes, if◌then◌else◌};
 ghost use Rattle.toml.specs.Data.{string, as_array, as_table, get_member, same_key};
 ghost use Rattle.toml.specs.View.{view, array_view, table_view};
 ghost use Rattle.rel_paths.specs.Names.{IsUserPath, IsBase, is_base, names_of};

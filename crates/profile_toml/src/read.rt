@@ -4,7 +4,8 @@ ghost use Rattle.toml.specs.Data.{get_member};
 ghost use Rattle.toml.specs.View.{view, table_view};
 ghost use Rattle.profile_toml.specs.Faults.{Reads};
 ghost use Rattle.profile_toml.specs.Kept.{IsVersion};
-ghost use Rattle.profile_toml.specs.Profiles.{document_of, document_fault, document_value, version_at, parts_fault, parts_value, versioned_fault, profile_of};
+ghost use Rattle.profile_toml.specs.Profiles.{document_of, document_fault, document_value, version_at, parts_fault};
+ghost use Rattle.profile_toml.specs.Profiles.{parts_value, versioned_fault, profile_of};
 ghost use Rattle.profile_toml.specs.Sound.{AreSound};
 ghost use Rattle.profile_toml.specs.Tables.{Document, room, member_from_2};
 

@@ -57,14 +57,22 @@ fn least_time(rt: &(impl AllocGlobal + CpuClock + Abort), rows: u64) -> Duration
     least
 }
 
+// Whether four times the rows take less than nine times as long in one of ten rounds: other work on
+// the machine may slow down some of them.
+fn takes_linear_time(rt: &(impl AllocGlobal + CpuClock + Abort), few: u64, many: u64) -> bool {
+    for _ in 0..10u8 {
+        let small = least_time(rt, few);
+        let large = least_time(rt, many);
+        if large.as_nanos() / 9 < small.as_nanos() {
+            return true;
+        }
+    }
+    false
+}
+
 #[test]
 fn four_times_the_rows_take_less_than_nine_times_the_time(rt: HostRuntime) {
-    let few = least_time(&rt, 3_000);
-    let many = least_time(&rt, 12_000);
-    assert!(&rt;
-        many.as_nanos() / 9 < few.as_nanos(),
-        "{many:?} after {few:?}"
-    );
+    assert!(&rt; takes_linear_time(&rt, 3_000, 12_000));
 }
 
 #[test]

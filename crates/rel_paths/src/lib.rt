@@ -1,6 +1,6 @@
 //! Paths below a root and mods' ids: the texts that are taken, the faults of those that aren't,
 //! the backup of a path, the places that the program keeps for itself, and the order of all of
-//! these, which is that of the bytes of their texts. Tests: src/tests.rt.
+//! these, which is that of the bytes of their texts. Tests stand in the crate `value_tests`.
 #![tactic(auto)]
 
 mod control;
@@ -8,8 +8,6 @@ mod error;
 mod mod_id;
 mod names;
 mod path;
-#[cfg(test)]
-mod tests;
 mod text;
 
 pub use control::Control;

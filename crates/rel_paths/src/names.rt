@@ -3,7 +3,8 @@ ghost use Rattle.std.specs.Prelude.{◌≡◌, ◌++◌, IfOk, length, nat_eq, n
 ghost use Rattle.std.specs.List.{ends_with, list_all, starts_with};
 ghost use Rattle.std.specs.Str.{bytes_eq};
 ghost use Rattle.std.specs.String.{string_bytes};
-ghost use Rattle.rel_paths.specs.Names.{names_of, is_good_byte, is_good_name, is_name_within, path_fault, backup_ending, has_backup, is_reserved, joined};
+ghost use Rattle.rel_paths.specs.Names.{names_of, is_good_byte, is_good_name, is_name_within, path_fault};
+ghost use Rattle.rel_paths.specs.Names.{backup_ending, has_backup, is_reserved, joined};
 
 use crate::PathError;
 use std::alloc::{AllocError, Global};

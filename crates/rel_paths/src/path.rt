@@ -3,7 +3,8 @@ ghost use Rattle.std.specs.Prelude.{◌≡◌, ◌++◌, ◌↔◌, IsTrue, opti
 ghost use Rattle.std.specs.List.{starts_with};
 ghost use Rattle.std.specs.Str.{bytes_eq};
 ghost use Rattle.fault_count.specs.Causes.{Explains};
-ghost use Rattle.rel_paths.specs.Names.{names_of, is_reserved, path_fault, user_limits, held_limits, joined, parent_names, backup_names, IsUserPath, IsHeldPath};
+ghost use Rattle.rel_paths.specs.Names.{names_of, is_reserved, path_fault, user_limits, held_limits, joined};
+ghost use Rattle.rel_paths.specs.Names.{parent_names, backup_names, IsUserPath, IsHeldPath};
 ghost use Rattle.rel_paths.specs.Controls.{control_path};
 
 use crate::{Control, PathError, Text, names};

@@ -8,4 +8,3 @@ pub mod Visits
 pub mod Results
 pub mod Targets
 pub mod FileLists
-pub mod TestBases

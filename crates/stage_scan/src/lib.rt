@@ -2,8 +2,7 @@
 //!
 //! `scan_mod` walks a mod's folder. It takes a folder's entries in byte order of their names, and
 //! a folder's content at its place. `digest_of` reads a file piece by piece. `place_below` says
-//! where a mod's files are deployed below a base folder. Tests of scans and digests stand in the
-//! crate `scan_tests`, those of lists of files and of places below a base in `src/tests.rt`.
+//! where a mod's files are deployed below a base folder. Tests stand in the crate `scan_tests`.
 #![tactic(auto)]
 
 mod digest;
@@ -12,8 +11,6 @@ mod files;
 mod pending;
 mod placed;
 mod scan;
-#[cfg(test)]
-mod tests;
 mod walk;
 
 pub use digest::digest_of;

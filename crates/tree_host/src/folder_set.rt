@@ -52,6 +52,6 @@ impl FolderSet {
     pub(crate) fn clear(&mut self)
         ensures { (path : List ℕ) → contains_text self.new.paths path ≡ false }
     {
-        self.paths.clear();
+        self.paths = HashSet::new(self.alloc);
     }
 }

@@ -12,6 +12,7 @@ use crate::folder_set::FolderSet;
 use crate::looks::Looks;
 use crate::reading::Reading;
 use std::alloc::{AllocError, Global};
+use std::collections::BTreeSet;
 use std::io;
 use std::rt::Files;
 use tree_fs::{Place, Root};
@@ -26,10 +27,16 @@ pub(crate) struct RealDisk<R: Files + Clone + Drop> {
     base: String,
     // The roots are there, and lie apart.
     has_roots: bool,
+    // The base was synced, and no root was made since.
+    has_settled_base: bool,
     // Folders below the roots, no links, as each folder above them up to the root.
     real: FolderSet,
-    // Folders that were synced, and none was made or removed in them since.
+    // Paths below the roots at which no folder was found since the last change.
+    missing: FolderSet,
+    // Folders that were synced, and nothing in them was changed since.
     settled: FolderSet,
+    // Folders in which one was made or removed, to be synced before a file gets or loses a name.
+    late: BTreeSet<String>,
     looks: Looks,
     // The file that the last call read a part of.
     reading: Option<Reading<R::File>>,
@@ -42,8 +49,11 @@ impl<R: Files + Clone + Drop> RealDisk<R> {
             rt: (rt, alloc),
             base: String::from_str(alloc, base)?,
             has_roots: false,
+            has_settled_base: false,
             real: FolderSet::new(alloc),
+            missing: FolderSet::new(alloc),
             settled: FolderSet::new(alloc),
+            late: BTreeSet::new(alloc),
             looks: Looks::new(),
             reading: None,
         })
@@ -53,6 +63,8 @@ impl<R: Files + Clone + Drop> RealDisk<R> {
     pub(crate) fn forget(&mut self) {
         self.has_roots = false;
         self.real.clear();
+        self.missing.clear();
+        self.settled.clear();
         self.looks.clear();
         self.reading = None;
     }
@@ -68,11 +80,8 @@ impl<R: Files + Clone + Drop> RealDisk<R> {
     fn begin_change(&mut self) -> io::Result<()> {
         self.begin()?;
         self.looks.clear();
-        if !self.settled.has(self.base.as_str()) {
-            self.sync_path(self.base.as_str())?;
-            self.settled.add(self.base.as_str())?;
-        }
-        Ok(())
+        self.missing.clear();
+        self.settle_base()
     }
 
     fn path_of(&self, at: &Place) -> Result<String, AllocError>

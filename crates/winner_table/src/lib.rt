@@ -3,7 +3,8 @@
 //! `winners` finds the winner of every path that the enabled mods provide: the override's mod where
 //! it provides the path, otherwise the last one of the load order that does. It goes by
 //! `all_providers`, which lists the provided paths, each with its providers, and that by
-//! `merge_runs`, which merges runs that are already sorted. Tests stand in `src/tests.rt`.
+//! `merge_runs`, which merges runs that are already sorted. Tests stand in the crate
+//! `winner_tests`.
 #![tactic(auto)]
 
 mod compare;
@@ -14,8 +15,6 @@ mod overrides;
 mod provided;
 mod providers;
 mod runs;
-#[cfg(test)]
-mod tests;
 mod wins;
 
 pub use compare::Compare;

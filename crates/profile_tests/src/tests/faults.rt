@@ -15,75 +15,161 @@ fn check(rt: &(impl AllocGlobal + Abort), text: &str, wanted: &str) {
     assert_eq!(rt; found.as_str(), wanted, "{text}");
 }
 
-#[test]
-fn faults_of_the_document(rt: HostRuntime) {
-    for (text, wanted) in [
-        ("= 1", "NotToml"),
-        ("version = 1", "read"),
-        ("version = 2", "read"),
-        ("", "Version"),
-        ("version = 0", "Version"),
-        ("version = 3", "Version"),
-        ("version = '1'", "Version"),
-        ("version = 1\nx = 1.5", "Float"),
-        ("version = 2\nx = [{ y = inf }]", "Float"),
-        ("version = 1\nx = 2026-01-01", "read"),
-        ("version = 2\nfold = false", "Shape(fold)"),
-        ("version = 2\ntypes = {}", "Shape(types)"),
-        ("version = 1\nmods = 3", "Shape(mods)"),
-        ("version = 1\noverrides = 'x'", "Shape(overrides)"),
-    ] {
-        check(&rt, text, wanted);
+// The table tells a case by its name. `<` begins the form of the texts that follow: what stands in
+// front of an arrow comes to the place of the dollar, and behind the arrow is what the text is
+// refused for, or `read`. A bar is a line end.
+const FAULTS: &str = r#"
+    == faults_of_the_document
+    < $
+    = 1 => NotToml
+    version = 1 => read
+    version = 2 => read
+    => Version
+    version = 0 => Version
+    version = 3 => Version
+    version = '1' => Version
+    version = 1|x = 1.5 => Float
+    version = 2|x = [{ y = inf }] => Float
+    version = 1|x = 2026-01-01 => read
+    version = 2|fold = false => Shape(fold)
+    version = 2|types = {} => Shape(types)
+    version = 1|mods = 3 => Shape(mods)
+    version = 1|overrides = 'x' => Shape(overrides)
+
+    == faults_of_types
+    < version = 2|types = [$]
+    => read
+    1 => Shape(types[0])
+    { base = 'bin' } => Shape(types[0].id)
+    { id = 1 } => Shape(types[0].id)
+    { id = 'a/b' } => BadPath(a/b)
+    { id = 'd', base = 'bin' }, 1 => Shape(types[1])
+    { id = 'd', base = 'bin' }, { id = 'd' } => SameType(d)
+    { id = 'd' } => Shape(types[0].base)
+    { id = 'd', base = ['bin'] } => Shape(types[0].base)
+    { id = 'd', base = '../bin' } => BadPath(../bin)
+    { id = 'd', base = '' } => BadPath()
+    { id = 'd', base = 'vortex.deployment.json' } => BadPath(vortex.deployment.json)
+    { id = 'd', base = 'x.vortex_backup/y' } => BadPath(x.vortex_backup/y)
+    { id = 'd', base = 'bin' }, { id = 'e', base = 'bin' } => read
+
+    == faults_of_mods
+    < version = 2|mods = [$]|types = [{ id = 'd', base = 'bin' }, { id = 'e', base = 'bin' }]
+    => read
+    1 => Shape(mods[0])
+    { enabled = true } => Shape(mods[0].id)
+    { id = 1 } => Shape(mods[0].id)
+    { id = '' } => BadPath()
+    { id = 'a/b' } => BadPath(a/b)
+    { id = 'a' }, 1 => Shape(mods[1])
+    { id = 'a' }, { id = 'a' } => SameMod(a)
+    { id = 'a', enabled = 1 } => Shape(mods[0].enabled)
+    { id = 'a', release = 1 } => Shape(mods[0].release)
+    { id = 'a', release = '1.0' } => BadRelease(1.0)
+    { id = 'a', type = 1 } => Shape(mods[0].type)
+    { id = 'a', type = 'd/e' } => NoType(d/e)
+    { id = 'a', type = 'f' } => NoType(f)
+    { id = 'a', type = 'd' }, { id = 'b', type = 'e' } => read
+    { id = 'a', rules = {} } => Shape(mods[0].rules)
+
+    == faults_of_rules
+    < version = 2|mods = [{ id = 'a' }, { id = 'b', rules = [$] }]
+    => read
+    1 => Shape(mods[1].rules[0])
+    { ref = 'a' } => Shape(mods[1].rules[0].kind)
+    { kind = 1 } => Shape(mods[1].rules[0].kind)
+    { kind = 'After' } => BadKind(After)
+    { kind = 'before' } => Shape(mods[1].rules[0].ref)
+    { kind = 'after', ref = 1 } => Shape(mods[1].rules[0].ref)
+    { kind = 'requires', ref = '..' } => BadPath(..)
+    { kind = 'conflicts', ref = 'c', range = 1 } => Shape(mods[1].rules[0].range)
+    { kind = 'recommends', ref = 'c', range = 'one' } => BadRange(one)
+    { kind = 'recommends', ref = 'c', range = '>=1' }, 1 => Shape(mods[1].rules[1])
+
+    == faults_of_overrides
+    < version = 1|overrides = [$]
+    => read
+    [] => Shape(overrides[0])
+    { mod = 'a' } => Shape(overrides[0].path)
+    { path = 1 } => Shape(overrides[0].path)
+    { path = '/x' } => BadPath(/x)
+    { path = 'x' } => Shape(overrides[0].mod)
+    { path = 'x', mod = 1 } => Shape(overrides[0].mod)
+    { path = 'x', mod = '.' } => BadPath(.)
+    { path = 'x', mod = 'a' }, { path = 'x/y' } => Shape(overrides[1].mod)
+    { path = 'x', mod = 'a' }, { path = 'x', mod = 'b' } => SameOverride(x)
+
+    == of_the_faults_of_a_document_the_first_is_told
+    < $
+    version = 3|x = 1.5 => Float
+    fold = 1|mods = 2 => Version
+    version = 2|mods = 1|types = 2|fold = 3 => Shape(fold)
+    version = 2|overrides = 1|mods = 2|types = 3 => Shape(types)
+    version = 2|overrides = 1|mods = 2 => Shape(mods)
+    version = 2|mods = [{}]|types = [{ id = 'd', base = 'bin' }, {}] => Shape(types[1].id)
+    version = 1|overrides = 1|mods = [{ id = 'a' }, {}] => Shape(mods[1].id)
+
+    == of_the_faults_of_types_and_mods_the_first_is_told
+    < version = 2|types = [$]
+    { base = '/', id = 1 }, 2 => Shape(types[0].id)
+    { id = 'd', base = 'bin' }, { id = 'd', base = '/' } => SameType(d)
+    { id = 'd', base = '/' }, 2 => BadPath(/)
+    < version = 2|mods = [$]|types = [{ id = 'd', base = 'bin' }, { id = 'e', base = 'bin' }]
+    { id = 'a' }, { id = 'a', enabled = 1 } => SameMod(a)
+    { id = 'a', rules = 1, type = 2, release = 3, enabled = 4 } => Shape(mods[0].enabled)
+    { id = 'a', rules = 1, type = 2, release = 3 } => Shape(mods[0].release)
+    { id = 'a', rules = 1, type = 'f', release = '1' } => BadRelease(1)
+    { id = 'a', rules = 1, type = 'f' } => NoType(f)
+    { id = 'a', rules = [1] }, 2 => Shape(mods[0].rules[0])
+
+    == of_the_faults_of_rules_and_overrides_the_first_is_told
+    < version = 2|mods = [{ id = 'a' }, { id = 'b', rules = [$] }]
+    { range = 1, ref = 2, kind = 'x' } => BadKind(x)
+    { range = 1, ref = '.', kind = 'after' } => BadPath(.)
+    { range = 'one', ref = 'b', kind = 'after' }, 1 => BadRange(one)
+    < version = 1|overrides = [$]
+    { mod = 1, path = '/' } => BadPath(/)
+    { path = 'x', mod = 'a' }, { path = 'x' } => SameOverride(x)
+"#;
+
+fn check_line(rt: &(impl AllocGlobal + Abort), form: &str, line: &str) {
+    let (items, wanted) = line.split_once("=> ").expect(rt, line);
+    let text = form.replace(rt.alloc(), '$', items.trim());
+    let text = text.expect(rt, "memory");
+    let text = text.as_str().replace(rt.alloc(), '|', "\n");
+    check(rt, text.expect(rt, "memory").as_str(), wanted);
+}
+
+fn check_form(rt: &(impl AllocGlobal + Abort + Eprint), form: &str, lines: &str) {
+    for line in lines.lines() {
+        let line = line.trim();
+        if let Some(name) = line.strip_prefix("== ") {
+            eprintln!(rt; "{name}").expect(rt, "standard error");
+        } else if !line.is_empty() {
+            check_line(rt, form, line);
+        }
     }
+}
+
+fn check_all(rt: &(impl AllocGlobal + Abort + Eprint), table: &str) {
+    for block in table.split("< ") {
+        let (form, lines) = block.split_once('\n').unwrap_or((block, ""));
+        check_form(rt, form, lines);
+    }
+}
+
+#[test]
+fn each_fault_is_told(rt: HostRuntime) {
+    check_all(&rt, FAULTS);
     assert_eq!(&rt; answer(&rt, b"version = 1 #\xff").as_str(), "NotToml");
-}
-
-// What is told of a document whose `types` has these items.
-fn check_types(rt: &(impl AllocGlobal + Abort), items: &str, wanted: &str) {
-    let text = format!(in rt.alloc(); "version = 2\ntypes = [{items}]").expect(rt, "memory");
-    check(rt, text.as_str(), wanted);
-}
-
-#[test]
-fn faults_of_types(rt: HostRuntime) {
-    for (items, wanted) in [
-        ("", "read"),
-        ("1", "Shape(types[0])"),
-        ("{ base = 'bin' }", "Shape(types[0].id)"),
-        ("{ id = 1 }", "Shape(types[0].id)"),
-        ("{ id = 'a/b' }", "BadPath(a/b)"),
-        ("{ id = 'd', base = 'bin' }, 1", "Shape(types[1])"),
-        ("{ id = 'd', base = 'bin' }, { id = 'd' }", "SameType(d)"),
-        ("{ id = 'd' }", "Shape(types[0].base)"),
-        ("{ id = 'd', base = ['bin'] }", "Shape(types[0].base)"),
-        ("{ id = 'd', base = '../bin' }", "BadPath(../bin)"),
-        ("{ id = 'd', base = '' }", "BadPath()"),
-        (
-            "{ id = 'd', base = 'vortex.deployment.json' }",
-            "BadPath(vortex.deployment.json)",
-        ),
-        (
-            "{ id = 'd', base = 'x.vortex_backup/y' }",
-            "BadPath(x.vortex_backup/y)",
-        ),
-        (
-            "{ id = 'd', base = 'bin' }, { id = 'e', base = 'bin' }",
-            "read",
-        ),
-    ] {
-        check_types(&rt, items, wanted);
-    }
 }
 
 // What is told of a type with this base.
 fn check_base(rt: &(impl AllocGlobal + Abort), base: &str, is_one: bool) {
-    let items = format!(in rt.alloc(); "{{ id = 'd', base = '{base}' }}").expect(rt, "memory");
+    let text = format!(in rt.alloc(); "version = 2\ntypes = [{{ id = 'd', base = '{base}' }}]");
     let fault = format!(in rt.alloc(); "BadPath({base})").expect(rt, "memory");
-    check_types(
-        rt,
-        items.as_str(),
-        if is_one { "read" } else { fault.as_str() },
-    );
+    let wanted = if is_one { "read" } else { fault.as_str() };
+    check(rt, text.expect(rt, "memory").as_str(), wanted);
 }
 
 #[test]
@@ -107,177 +193,6 @@ fn a_base_has_8_names_and_300_bytes_at_most(rt: HostRuntime) {
             .expect(&rt, "memory")
             .as_str(),
         false,
-    );
-}
-
-// What is told of a document with the types `d` and `e` whose `mods` has these items.
-fn check_mods(rt: &(impl AllocGlobal + Abort), items: &str, wanted: &str) {
-    let text = format!(in rt.alloc();
-        "version = 2\nmods = [{items}]
-        types = [{{ id = 'd', base = 'bin' }}, {{ id = 'e', base = 'bin' }}]"
-    );
-    check(rt, text.expect(rt, "memory").as_str(), wanted);
-}
-
-#[test]
-fn faults_of_mods(rt: HostRuntime) {
-    for (items, wanted) in [
-        ("", "read"),
-        ("1", "Shape(mods[0])"),
-        ("{ enabled = true }", "Shape(mods[0].id)"),
-        ("{ id = 1 }", "Shape(mods[0].id)"),
-        ("{ id = '' }", "BadPath()"),
-        ("{ id = 'a/b' }", "BadPath(a/b)"),
-        ("{ id = 'a' }, 1", "Shape(mods[1])"),
-        ("{ id = 'a' }, { id = 'a' }", "SameMod(a)"),
-        ("{ id = 'a', enabled = 1 }", "Shape(mods[0].enabled)"),
-        ("{ id = 'a', release = 1 }", "Shape(mods[0].release)"),
-        ("{ id = 'a', release = '1.0' }", "BadRelease(1.0)"),
-        ("{ id = 'a', type = 1 }", "Shape(mods[0].type)"),
-        ("{ id = 'a', type = 'd/e' }", "NoType(d/e)"),
-        ("{ id = 'a', type = 'f' }", "NoType(f)"),
-        ("{ id = 'a', type = 'd' }, { id = 'b', type = 'e' }", "read"),
-        ("{ id = 'a', rules = {} }", "Shape(mods[0].rules)"),
-    ] {
-        check_mods(&rt, items, wanted);
-    }
-}
-
-// What is told of a document whose second mod has these rules.
-fn check_rules(rt: &(impl AllocGlobal + Abort), items: &str, wanted: &str) {
-    let mods = format!(in rt.alloc(); "{{ id = 'a' }}, {{ id = 'b', rules = [{items}] }}");
-    check_mods(rt, mods.expect(rt, "memory").as_str(), wanted);
-}
-
-#[test]
-fn faults_of_rules(rt: HostRuntime) {
-    for (items, wanted) in [
-        ("", "read"),
-        ("1", "Shape(mods[1].rules[0])"),
-        ("{ ref = 'a' }", "Shape(mods[1].rules[0].kind)"),
-        ("{ kind = 1 }", "Shape(mods[1].rules[0].kind)"),
-        ("{ kind = 'After' }", "BadKind(After)"),
-        ("{ kind = 'before' }", "Shape(mods[1].rules[0].ref)"),
-        ("{ kind = 'after', ref = 1 }", "Shape(mods[1].rules[0].ref)"),
-        ("{ kind = 'requires', ref = '..' }", "BadPath(..)"),
-        (
-            "{ kind = 'conflicts', ref = 'c', range = 1 }",
-            "Shape(mods[1].rules[0].range)",
-        ),
-        (
-            "{ kind = 'recommends', ref = 'c', range = 'one' }",
-            "BadRange(one)",
-        ),
-        (
-            "{ kind = 'recommends', ref = 'c', range = '>=1' }, 1",
-            "Shape(mods[1].rules[1])",
-        ),
-    ] {
-        check_rules(&rt, items, wanted);
-    }
-}
-
-// What is told of a document whose `overrides` has these items.
-fn check_overrides(rt: &(impl AllocGlobal + Abort), items: &str, wanted: &str) {
-    let text = format!(in rt.alloc(); "version = 1\noverrides = [{items}]").expect(rt, "memory");
-    check(rt, text.as_str(), wanted);
-}
-
-#[test]
-fn faults_of_overrides(rt: HostRuntime) {
-    for (items, wanted) in [
-        ("", "read"),
-        ("[]", "Shape(overrides[0])"),
-        ("{ mod = 'a' }", "Shape(overrides[0].path)"),
-        ("{ path = 1 }", "Shape(overrides[0].path)"),
-        ("{ path = '/x' }", "BadPath(/x)"),
-        ("{ path = 'x' }", "Shape(overrides[0].mod)"),
-        ("{ path = 'x', mod = 1 }", "Shape(overrides[0].mod)"),
-        ("{ path = 'x', mod = '.' }", "BadPath(.)"),
-        (
-            "{ path = 'x', mod = 'a' }, { path = 'x/y' }",
-            "Shape(overrides[1].mod)",
-        ),
-        (
-            "{ path = 'x', mod = 'a' }, { path = 'x', mod = 'b' }",
-            "SameOverride(x)",
-        ),
-    ] {
-        check_overrides(&rt, items, wanted);
-    }
-}
-
-#[test]
-fn of_the_faults_of_a_document_the_first_is_told(rt: HostRuntime) {
-    for (text, wanted) in [
-        ("version = 3\nx = 1.5", "Float"),
-        ("fold = 1\nmods = 2", "Version"),
-        ("version = 2\nmods = 1\ntypes = 2\nfold = 3", "Shape(fold)"),
-        (
-            "version = 2\noverrides = 1\nmods = 2\ntypes = 3",
-            "Shape(types)",
-        ),
-        ("version = 2\noverrides = 1\nmods = 2", "Shape(mods)"),
-        (
-            "version = 2\nmods = [{}]\ntypes = [{ id = 'd', base = 'bin' }, {}]",
-            "Shape(types[1].id)",
-        ),
-        (
-            "version = 1\noverrides = 1\nmods = [{ id = 'a' }, {}]",
-            "Shape(mods[1].id)",
-        ),
-    ] {
-        check(&rt, text, wanted);
-    }
-}
-
-#[test]
-fn of_the_faults_of_types_and_mods_the_first_is_told(rt: HostRuntime) {
-    check_types(&rt, "{ base = '/', id = 1 }, 2", "Shape(types[0].id)");
-    check_types(
-        &rt,
-        "{ id = 'd', base = 'bin' }, { id = 'd', base = '/' }",
-        "SameType(d)",
-    );
-    check_types(&rt, "{ id = 'd', base = '/' }, 2", "BadPath(/)");
-    for (items, wanted) in [
-        ("{ id = 'a' }, { id = 'a', enabled = 1 }", "SameMod(a)"),
-        (
-            "{ id = 'a', rules = 1, type = 2, release = 3, enabled = 4 }",
-            "Shape(mods[0].enabled)",
-        ),
-        (
-            "{ id = 'a', rules = 1, type = 2, release = 3 }",
-            "Shape(mods[0].release)",
-        ),
-        (
-            "{ id = 'a', rules = 1, type = 'f', release = '1' }",
-            "BadRelease(1)",
-        ),
-        ("{ id = 'a', rules = 1, type = 'f' }", "NoType(f)"),
-        ("{ id = 'a', rules = [1] }, 2", "Shape(mods[0].rules[0])"),
-    ] {
-        check_mods(&rt, items, wanted);
-    }
-}
-
-#[test]
-fn of_the_faults_of_rules_and_overrides_the_first_is_told(rt: HostRuntime) {
-    for (items, wanted) in [
-        ("{ range = 1, ref = 2, kind = 'x' }", "BadKind(x)"),
-        ("{ range = 1, ref = '.', kind = 'after' }", "BadPath(.)"),
-        (
-            "{ range = 'one', ref = 'b', kind = 'after' }, 1",
-            "BadRange(one)",
-        ),
-    ] {
-        check_rules(&rt, items, wanted);
-    }
-    check_overrides(&rt, "{ mod = 1, path = '/' }", "BadPath(/)");
-    check_overrides(
-        &rt,
-        "{ path = 'x', mod = 'a' }, { path = 'x' }",
-        "SameOverride(x)",
     );
 }
 

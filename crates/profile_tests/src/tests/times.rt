@@ -62,27 +62,37 @@ fn least_times(rt: &(impl AllocGlobal + CpuClock + Abort), mods: u32, rules: u32
 
 // Four times the text takes four times as long where time is linear in it, and sixteen times where
 // it is quadratic.
-fn check_times(rt: &(impl AllocGlobal + CpuClock + Abort), few: Taken, many: Taken) {
-    let (reading, printing) = (many.reading, many.printing);
-    assert!(rt;
-        reading.as_nanos() / 9 < few.reading.as_nanos(),
-        "{reading:?} to read"
-    );
-    assert!(rt;
-        printing.as_nanos() / 9 < few.printing.as_nanos(),
-        "{printing:?} to print"
-    );
+fn is_below_nine_times(few: Taken, many: Taken) -> bool {
+    many.reading.as_nanos() / 9 < few.reading.as_nanos()
+        && many.printing.as_nanos() / 9 < few.printing.as_nanos()
+}
+
+// How many mods, and with how many rules each.
+type Size = (u32, u32);
+
+// Whether it is so in one of ten rounds: other work on the machine may slow down some of them.
+fn takes_linear_time(
+    rt: &(impl AllocGlobal + CpuClock + Abort),
+    (few, rules): Size,
+    (many, more_rules): Size,
+) -> bool {
+    for _ in 0..10u8 {
+        let small = least_times(rt, few, rules);
+        let large = least_times(rt, many, more_rules);
+        if is_below_nine_times(small, large) {
+            return true;
+        }
+    }
+    false
 }
 
 #[test]
 fn four_times_the_text_takes_less_than_nine_times_the_time(rt: HostRuntime) {
-    for (few, many, rules, more_rules) in [
-        (400u32, 1600u32, 20u32, 20u32),
-        (1000, 4000, 0, 0),
-        (1, 1, 2000, 8000),
+    for (small, large) in [
+        ((400, 20), (1600, 20)),
+        ((1000, 0), (4000, 0)),
+        ((1, 2000), (1, 8000)),
     ] {
-        let small = least_times(&rt, few, rules);
-        let large = least_times(&rt, many, more_rules);
-        check_times(&rt, small, large);
+        assert!(&rt; takes_linear_time(&rt, small, large), "{large:?}");
     }
 }

@@ -7,19 +7,28 @@ use std::{fs, io};
 use tree_fs::Place;
 
 impl<R: Files + Clone + Drop> RealDisk<R> {
-    // The path of a place that is about to change.
-    fn path_to_change(&mut self, at: &Place) -> io::Result<String> {
+    // What comes before a file gets or loses a name.
+    fn begin_naming(&mut self) -> io::Result<()> {
         self.begin_change()?;
-        self.path_below_folders(at)
+        self.settle_late()
+    }
+
+    // The path of a place that is about to get a file, or to lose it.
+    fn path_to_change(&mut self, at: &Place) -> io::Result<String> {
+        let path = self.path_below_folders(at)?;
+        self.settled.remove(parent(path.as_str()));
+        Ok(path)
     }
 
     pub(crate) fn link(&mut self, from: &Place, to: &Place) -> io::Result<()> {
-        let original = self.path_to_change(from)?;
-        let link = self.path_below_folders(to)?;
+        self.begin_naming()?;
+        let original = self.path_below_folders(from)?;
+        let link = self.path_to_change(to)?;
         fs::hard_link(&self.rt, original.as_str(), link.as_str())
     }
 
     pub(crate) fn unlink(&mut self, at: &Place) -> io::Result<()> {
+        self.begin_naming()?;
         let path = self.path_to_change(at)?;
         fs::remove_file(&self.rt, path.as_str())
     }
@@ -28,14 +37,16 @@ impl<R: Files + Clone + Drop> RealDisk<R> {
     pub(crate) fn rename(&mut self, from: &Place, to: &Place) -> io::Result<()> {
         self.begin()?;
         self.find_file(from)?;
+        self.begin_naming()?;
         let old = self.path_to_change(from)?;
-        let new = self.path_below_folders(to)?;
+        let new = self.path_to_change(to)?;
         fs::rename(&self.rt, old.as_str(), new.as_str())
     }
 
     /// Never overwrites, and follows no link at the end of the path either. The bytes are synced
     /// where they were written, as an error of closing the file is not seen.
     pub(crate) fn put_new(&mut self, at: &Place, bytes: &[u8]) -> io::Result<()> {
+        self.begin_naming()?;
         let path = self.path_to_change(at)?;
         self.put(path.as_str(), bytes)
     }
@@ -47,30 +58,34 @@ impl<R: Files + Clone + Drop> RealDisk<R> {
     }
 
     pub(crate) fn make_folder(&mut self, at: &Place) -> io::Result<()> {
-        let path = self.path_to_change(at)?;
+        self.begin_change()?;
+        let path = self.path_below_folders(at)?;
         self.make(path.as_str())
     }
 
     fn make(&mut self, path: &str) -> io::Result<()> {
-        self.settled.remove(parent(path));
+        self.settle_later(parent(path))?;
         fs::create_dir(&self.rt, path)?;
-        self.settle_from_base(parent(path))?;
         self.real.add(path)?;
         Ok(())
     }
 
     pub(crate) fn remove_folder(&mut self, at: &Place) -> io::Result<()> {
-        let path = self.path_to_change(at)?;
+        self.begin_change()?;
+        let path = self.path_below_folders(at)?;
         self.remove(path.as_str())
     }
 
     fn remove(&mut self, path: &str) -> io::Result<()> {
         self.real.remove(path);
-        self.settled.remove(parent(path));
+        self.settle_later(parent(path))?;
         fs::remove_dir(&self.rt, path)?;
-        self.settle_from_base(parent(path))
+        self.settled.remove(path);
+        self.late.remove(path);
+        Ok(())
     }
 
+    /// Asks nothing of the system where nothing in the folder was changed since it was synced.
     pub(crate) fn sync_folder(&mut self, at: &Place) -> io::Result<()> {
         self.begin()?;
         let path = self.folder_path(at)?;

@@ -1,10 +1,11 @@
 // The folders above a place: none may be a link, and each is settled before what is in it is.
 use super::{RealDisk, parent};
 use crate::found::{Found, found_or_nothing};
+use std::collections::BTreeSet;
 use std::fs::{File, OpenFile};
 use std::io::ErrorKind;
 use std::rt::Files;
-use std::{fs, io};
+use std::{fs, io, mem};
 use tree_fs::{Kind, Place};
 
 impl<R: Files + Clone + Drop> RealDisk<R> {
@@ -55,7 +56,13 @@ impl<R: Files + Clone + Drop> RealDisk<R> {
         if self.real.has(path) {
             return Ok(true);
         }
+        if self.missing.has(path) {
+            return Ok(false);
+        }
         let found = self.look(path)?;
+        if found.kind != Kind::Folder {
+            self.missing.add(path)?;
+        }
         Ok(found.kind == Kind::Folder)
     }
 
@@ -71,18 +78,55 @@ impl<R: Files + Clone + Drop> RealDisk<R> {
     // Settles a folder and those above it up to the base: an earlier run may have made or removed
     // one, and not come to sync what it is in.
     pub(super) fn settle_from_base(&mut self, path: &str) -> io::Result<()> {
+        self.settle_base()?;
         for (end, _) in path.match_indices('/') {
             let above = path.get(..end).unwrap_or(path);
-            if end >= self.base.len() && !self.settled.has(above) {
+            if end > self.base.len() {
                 self.settle(above)?;
             }
         }
         self.settle(path)
     }
 
-    pub(super) fn settle(&mut self, folder: &str) -> io::Result<()> {
-        self.sync_path(folder)?;
-        self.settled.add(folder)?;
+    pub(super) fn settle_base(&mut self) -> io::Result<()> {
+        if !self.has_settled_base {
+            self.sync_path(self.base.as_str())?;
+            self.has_settled_base = true;
+        }
+        Ok(())
+    }
+
+    fn settle(&mut self, folder: &str) -> io::Result<()> {
+        if !self.settled.has(folder) {
+            self.sync_path(folder)?;
+            self.settled.add(folder)?;
+        }
+        Ok(())
+    }
+
+    // Before a folder is made or removed in this one.
+    pub(super) fn settle_later(&mut self, folder: &str) -> io::Result<()> {
+        self.settled.remove(folder);
+        if !self.late.contains(folder) {
+            self.late.insert(String::from_str(self.rt.1, folder)?)?;
+        }
+        Ok(())
+    }
+
+    // Settles the folders in which some were made or removed, from the base down.
+    pub(super) fn settle_late(&mut self) -> io::Result<()> {
+        let late = mem::replace(&mut self.late, BTreeSet::new(self.rt.1));
+        let outcome = self.settle_each(&late);
+        if outcome.is_err() {
+            self.late = late;
+        }
+        outcome
+    }
+
+    fn settle_each(&mut self, folders: &BTreeSet<String>) -> io::Result<()> {
+        for folder in folders {
+            self.settle_from_base(folder.as_str())?;
+        }
         Ok(())
     }
 

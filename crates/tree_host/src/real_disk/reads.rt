@@ -13,7 +13,9 @@ impl<R: Files + Clone + Drop> RealDisk<R> {
     pub(crate) fn kind(&mut self, at: &Place) -> io::Result<Kind> {
         self.begin()?;
         let path = self.path_of(at)?;
-        if self.has_real_parents(at, path.as_str())? {
+        if self.real.has(path.as_str()) {
+            Ok(Kind::Folder)
+        } else if self.has_real_parents(at, path.as_str())? {
             Ok(self.find(at, path)?.kind)
         } else {
             Ok(Kind::Absent)

@@ -43,7 +43,7 @@ impl<R: Files + Clone + Drop> RealDisk<R> {
         if found.kind != Kind::Absent {
             return Ok(found);
         }
-        self.settled.remove(self.base.as_str());
+        self.has_settled_base = false;
         fs::create_dir(&self.rt, path)?;
         found_or_nothing(fs::metadata(&self.rt, path))
     }

@@ -15,9 +15,11 @@ const WORLD: &str = "
 // The first call makes the missing root. A folder is looked at once, be it by `kind` or by a
 // listing. The base is synced before the first change, and a change lets go of what was looked at;
 // else nothing is asked twice. A file is kept open from one part to the next, and no longer. The
-// folder above one that is made or removed is synced, and a removed one is known no more. A new file
-// is synced where it was written. A folder is synced each time, and those above it once. After
-// `forget` all but what was synced is asked again.
+// folders above those that are made or removed are synced once, before a file gets or loses a name;
+// one that is removed itself isn't, and is known no more. Where no folder was found, none is looked
+// for again before the next change. A new file is synced where it was written. A folder in which
+// nothing was changed since is not synced again, nor those above it. After `forget` all but the
+// base's sync is asked again.
 const STEPS: &str = "
     kind stage/m | Folder | stat ./stage, stat ./game, stat ./keep, mkdir ./keep, stat ./keep, lstat ./stage/m
     list stage/m | e Folder | list ./stage/m/, lstat ./stage/m/e
@@ -33,14 +35,22 @@ const STEPS: &str = "
     read stage/m/e/y | [97, 98, 99] | open ./stage/m/e/y, read ./stage/m/e/y
     kind game/z | Absent | lstat ./game/z
     read stage/m/e/y | [97, 98, 99] | open ./stage/m/e/y, read ./stage/m/e/y
-    make_folder game/d | () | mkdir ./game/d, open ./game, fsync ./game
-    make_folder game/d/e | () | mkdir ./game/d/e, open ./game/d, fsync ./game/d
-    link stage/m/e/y game/d/e/x | () | link ./game/d/e/x
+    make_folder game/d | () | mkdir ./game/d
+    make_folder game/d/e | () | mkdir ./game/d/e
+    make_folder game/d/f | () | mkdir ./game/d/f
+    kind game/d/f | Folder |
+    link stage/m/e/y game/d/e/x | () | open ./game, fsync ./game, open ./game/d, fsync ./game/d, link ./game/d/e/x
     sync_folder game/d/e | () | open ./game/d/e, fsync ./game/d/e
+    sync_folder game/d/e | () |
     unlink game/d/e/x | () | unlink ./game/d/e/x
-    remove_folder game/d/e | () | rmdir ./game/d/e, open ./game/d, fsync ./game/d
+    sync_folder game/d/e | () | open ./game/d/e, fsync ./game/d/e
+    remove_folder game/d/e | () | rmdir ./game/d/e
     kind game/d/e/x | Absent | lstat ./game/d/e
-    put_new keep/one | () | open ./keep/one, write ./keep/one, fsync ./keep/one
+    kind game/d/e/z | Absent |
+    remove_folder game/d/f | () | rmdir ./game/d/f
+    kind game/d/e/z | Absent | lstat ./game/d/e
+    remove_folder game/d | () | rmdir ./game/d
+    put_new keep/one | () | open ./game, fsync ./game, open ./keep/one, write ./keep/one, fsync ./keep/one
     sync_file keep/one | () | lstat ./keep/one, open ./keep/one, fsync ./keep/one
     rename keep/one keep/two | () | rename ./keep/one
     kind keep/one | Absent | lstat ./keep/one
@@ -51,7 +61,8 @@ const STEPS: &str = "
     kind keep/two | File |
     forget | () |
     kind keep/two | File | stat ./stage, stat ./game, stat ./keep, lstat ./keep/two
-    list stage/m | e Folder | lstat ./stage/m, list ./stage/m/, lstat ./stage/m/e";
+    list stage/m | e Folder | lstat ./stage/m, list ./stage/m/, lstat ./stage/m/e
+    sync_folder stage/m | () | open ./stage, fsync ./stage, open ./stage/m, fsync ./stage/m";
 
 #[test]
 fn each_call_asks_the_system_in_order_and_nothing_twice(rt: HostRuntime) {
@@ -113,7 +124,7 @@ fn an_error_of_the_system_ends_the_call_that_met_it(rt: HostRuntime) {
                 break;
             }
         }
-        assert_eq!(&rt; calls, 63);
+        assert_eq!(&rt; calls, 73);
     }
 }
 

@@ -1,7 +1,0 @@
-use Rattle.std.proofs.Common.{sym, subst}
-use Rattle.rel_paths.specs.Names.{IsBase}
-use Rattle.stage_scan.proofs.TestBases.{long_is_base}
-use Rattle.stage_scan.proofs.tests.long_base.Goals as goal
-
-pub returns : goal.returns
-returns g c = subst IsBase (sym c.path_of.ensures) long_is_base

@@ -1,7 +1,0 @@
-use Rattle.std.proofs.Common.{sym, subst}
-use Rattle.rel_paths.specs.Names.{IsBase}
-use Rattle.stage_scan.proofs.TestBases.{short_is_base}
-use Rattle.stage_scan.proofs.tests.short_base.Goals as goal
-
-pub returns : goal.returns
-returns g c = subst IsBase (sym c.path_of.ensures) short_is_base
