@@ -41,7 +41,8 @@ def main():
     parser.add_argument("folder")
     words = parser.parse_args()
     text = make_world(words.files, words.folders, words.mods, words.folder)
-    print(f"{words.files} files in {words.folders} folders of {words.mods} mods, {text} bytes of paths")
+    print(f"{words.files} files in {words.folders} folders of {words.mods} mods")
+    print(f"{text} bytes of paths")
 
 
 if __name__ == "__main__":

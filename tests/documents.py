@@ -61,7 +61,11 @@ def _stands(column, name):
         return _is_found([os.path.join(folder, "specs")], ".antt", pattern)
     if column == "Clause":
         return _is_found([os.path.join(folder, "src")], ".rt", rf"\bensures\*? {last} \{{")
-    return _is_found([os.path.join(folder, "src")], ".rt", rf"\b(?:fn|struct|enum|trait) {last}\b")
+    pattern = rf"\b(?:fn|struct|enum|trait) {last}\b"
+    if column == "Test":
+        # A case of a table has its name behind two equal signs.
+        pattern += rf"|^ +== {last}(?: from \w+)?$"
+    return _is_found([os.path.join(folder, "src")], ".rt", pattern)
 
 
 def _is_found(folders, ending, pattern):
