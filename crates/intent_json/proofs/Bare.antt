@@ -1,5 +1,5 @@
 -- A plan that passes the rules passes them without its folders to make, saves and sets.
-use Rattle.std.proofs.Common.{ℕ, ◌+◌, List, [], ◌∷◌, refl, inl, inr}
+use Rattle.std.proofs.Common.{◌≡◌, ℕ, ◌+◌, List, [], ◌∷◌, refl, inl, inr}
 use Rattle.std.specs.List.{AllByRecursion}
 use Rattle.std.specs.declared.option.Option.{Option}
 use Rattle.std.specs.declared.option.Option.TheVariants.{None, Some}
@@ -11,7 +11,15 @@ use Rattle.move_plan.specs.declared.plan.Plan.{Plan}
 use Rattle.move_plan.specs.Places.{IsSetTo}
 use Rattle.move_plan.specs.Entries.{Entry, folder, save, set, clear, off, Listed, listed}
 use Rattle.move_plan.specs.Rules.{Rule, in_order, avoids_controls, source_stays, save_stays, keeping, clear_is_used, save_is_back, back_stays, apart, Keeps, PassesRules, MovesSome}
-use Rattle.intent_json.specs.Forms.{bare_of}
+use Rattle.intent_json.specs.declared.intent.Phase.{Phase}
+use Rattle.intent_json.specs.declared.intent.Phase.TheVariants.{Set, Clear}
+use Rattle.intent_json.specs.Forms.{bare_of, form_of, with_steps}
+
+-- in the clear phase a plan's intent has no steps
+pub bare_form : (phase : Phase) (plan : Plan) → phase ≡ Clear → with_steps phase [] [] [] plan ≡ form_of phase plan
+unfolding bare_of
+bare_form Clear plan is = refl
+bare_form Set plan is = let never : ⊥ = cc in absurd never
 
 abbrev at_entry : Entry → ℕ → Option Place → Listed
 at_entry e i front = record { index = i; front = front; entry = e }

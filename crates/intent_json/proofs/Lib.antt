@@ -5,3 +5,4 @@ pub mod Chains
 pub mod Intents
 pub mod Bare
 pub mod Accepts
+pub mod Lists

@@ -1,84 +1,112 @@
-// Places as JSON values.
-ghost use Rattle.std.specs.Prelude.{◌≡◌, IfOk, map};
+// Places written as JSON, a token at a time.
+ghost use Rattle.std.specs.Prelude.{◌≡◌, ◌++◌, OnOk};
 ghost use Rattle.std.specs.List.{AllByRecursion};
-ghost use Rattle.serde_json.specs.View.{view};
-ghost use Rattle.intent_json.specs.Places.{place_data, places_data, option_data, pair_data, set_data};
+ghost use Rattle.manifest_json.specs.Texts.{tokens_of};
+ghost use Rattle.intent_json.specs.Places.{place_data, places_data, option_data, pair_data, pairs_data, set_data, sets_data};
 ghost use Rattle.intent_json.specs.Held.{IsHeld, IsHeldOption, IsHeldPair, IsHeldSet};
 
+use json::Writer;
 use move_plan::SetRow;
-use serde_json::{Value, json};
 use std::alloc::{AllocError, Global};
 use tree_fs::Place;
 
-fn place_value(alloc: Global, place: &Place) -> Result<Value, AllocError>
-    ensures data { IfOk result (λ v. view v ≡ place_data place.now) }
-    ensures held { IfOk result (λ _. IsHeld place.now) }
+fn write_place(alloc: Global, writer: &mut Writer, place: &Place) -> Result<(), AllocError>
+    ensures tokens { OnOk result
+        (writer.new.tokens ≡ writer.old.tokens ++ tokens_of (place_data place.now)) }
+    ensures before { writer.new.before ≡ writer.old.before }
+    ensures held { OnOk result (IsHeld place.now) }
 {
-    Ok(Value::String(place.text(alloc)?))
+    let text = place.text(alloc)?;
+    writer.string(&text)
 }
 
-fn option_value(alloc: Global, place: &Option<Place>) -> Result<Value, AllocError>
-    ensures data { IfOk result (λ v. view v ≡ option_data place.now) }
-    ensures held { IfOk result (λ _. IsHeldOption place.now) }
+fn write_option(alloc: Global, writer: &mut Writer, place: &Option<Place>) -> Result<(), AllocError>
+    ensures tokens { OnOk result
+        (writer.new.tokens ≡ writer.old.tokens ++ tokens_of (option_data place.now)) }
+    ensures before { writer.new.before ≡ writer.old.before }
+    ensures held { OnOk result (IsHeldOption place.now) }
 {
     match place {
-        None => Ok(Value::Null),
-        Some(place) => place_value(alloc, place),
+        None => writer.null(),
+        Some(place) => write_place(alloc, writer, place),
     }
 }
 
-fn pair_value(alloc: Global, pair: &(Place, Place)) -> Result<Value, AllocError>
-    ensures data { IfOk result (λ v. view v ≡ pair_data pair.now) }
-    ensures held { IfOk result (λ _. IsHeldPair pair.now) }
+fn write_pair(alloc: Global, writer: &mut Writer, pair: &(Place, Place)) -> Result<(), AllocError>
+    ensures tokens { OnOk result
+        (writer.new.tokens ≡ writer.old.tokens ++ tokens_of (pair_data pair.now)) }
+    ensures before { writer.new.before ≡ writer.old.before }
+    ensures held { OnOk result (IsHeldPair pair.now) }
 {
-    let mut items = Vec::with_capacity(alloc, 2)?;
-    items.push(place_value(alloc, &pair.0)?)?;
-    items.push(place_value(alloc, &pair.1)?)?;
-    Ok(Value::Array(items))
+    writer.begin_array()?;
+    write_place(alloc, writer, &pair.0)?;
+    write_place(alloc, writer, &pair.1)?;
+    writer.end_array()
 }
 
-fn set_value(alloc: Global, set: &SetRow) -> Result<Value, AllocError>
-    ensures data { IfOk result (λ v. view v ≡ set_data set.now) }
-    ensures held { IfOk result (λ _. IsHeldSet set.now) }
+fn write_set(alloc: Global, writer: &mut Writer, set: &SetRow) -> Result<(), AllocError>
+    ensures tokens { OnOk result
+        (writer.new.tokens ≡ writer.old.tokens ++ tokens_of (set_data set.now)) }
+    ensures before { writer.new.before ≡ writer.old.before }
+    ensures held { OnOk result (IsHeldSet set.now) }
 {
-    let back = option_value(alloc, &set.back)?;
-    let from = option_value(alloc, &set.from)?;
-    let to = place_value(alloc, &set.to)?;
-    json!(in alloc; {"back": back, "from": from, "to": to})
+    writer.begin_object()?;
+    writer.key("back")?;
+    write_option(alloc, writer, &set.back)?;
+    writer.key("from")?;
+    write_option(alloc, writer, &set.from)?;
+    writer.key("to")?;
+    write_place(alloc, writer, &set.to)?;
+    writer.end_object()
 }
 
-pub(crate) fn places_values(alloc: Global, places: &[Place]) -> Result<Vec<Value>, AllocError>
-    ensures data { IfOk result (λ vs. map view vs.items ≡ map place_data places.now) }
-    ensures held { IfOk result (λ _. AllByRecursion IsHeld places.now) }
-{
-    let mut values = Vec::with_capacity(alloc, places.len())?;
-    for place in places {
-        values.push(place_value(alloc, place)?)?;
-    }
-    Ok(values)
-}
-
-pub(crate) fn pairs_values(
+pub(crate) fn write_places(
     alloc: Global,
-    pairs: &[(Place, Place)],
-) -> Result<Vec<Value>, AllocError>
-    ensures data { IfOk result (λ vs. map view vs.items ≡ map pair_data pairs.now) }
-    ensures held { IfOk result (λ _. AllByRecursion IsHeldPair pairs.now) }
+    writer: &mut Writer,
+    places: &[Place],
+) -> Result<(), AllocError>
+    ensures tokens { OnOk result
+        (writer.new.tokens ≡ writer.old.tokens ++ tokens_of (places_data places.now)) }
+    ensures before { writer.new.before ≡ writer.old.before }
+    ensures held { OnOk result (AllByRecursion IsHeld places.now) }
 {
-    let mut values = Vec::with_capacity(alloc, pairs.len())?;
-    for pair in pairs {
-        values.push(pair_value(alloc, pair)?)?;
+    writer.begin_array()?;
+    for place in places {
+        write_place(alloc, writer, place)?;
     }
-    Ok(values)
+    writer.end_array()
 }
 
-pub(crate) fn sets_values(alloc: Global, sets: &[SetRow]) -> Result<Vec<Value>, AllocError>
-    ensures data { IfOk result (λ vs. map view vs.items ≡ map set_data sets.now) }
-    ensures held { IfOk result (λ _. AllByRecursion IsHeldSet sets.now) }
+pub(crate) fn write_pairs(
+    alloc: Global,
+    writer: &mut Writer,
+    pairs: &[(Place, Place)],
+) -> Result<(), AllocError>
+    ensures tokens { OnOk result
+        (writer.new.tokens ≡ writer.old.tokens ++ tokens_of (pairs_data pairs.now)) }
+    ensures before { writer.new.before ≡ writer.old.before }
+    ensures held { OnOk result (AllByRecursion IsHeldPair pairs.now) }
 {
-    let mut values = Vec::with_capacity(alloc, sets.len())?;
-    for set in sets {
-        values.push(set_value(alloc, set)?)?;
+    writer.begin_array()?;
+    for pair in pairs {
+        write_pair(alloc, writer, pair)?;
     }
-    Ok(values)
+    writer.end_array()
+}
+
+pub(crate) fn write_sets(
+    alloc: Global,
+    writer: &mut Writer,
+    sets: &[SetRow],
+) -> Result<(), AllocError>
+    ensures tokens { OnOk result
+        (writer.new.tokens ≡ writer.old.tokens ++ tokens_of (sets_data sets.now)) }
+    ensures before { writer.new.before ≡ writer.old.before }
+    ensures held { OnOk result (AllByRecursion IsHeldSet sets.now) }
+{
+    writer.begin_array()?;
+    for set in sets {
+        write_set(alloc, writer, set)?;
+    }
+    writer.end_array()
 }

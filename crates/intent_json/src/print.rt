@@ -1,9 +1,10 @@
 // Intents as JSON text.
-ghost use Rattle.std.specs.Prelude.{◌≡◌, IfOk, IsUtf8, Some, codes};
+ghost use Rattle.std.specs.Prelude.{◌≡◌, ◌∷◌, ◌++◌, IfOk, OnOk, IsUtf8, Some, codes};
 ghost use Rattle.std.specs.List.{AllByRecursion};
-ghost use Rattle.serde_json.specs.Data.{string, number, unsigned, object, member, no_members};
-ghost use Rattle.serde_json.specs.View.{view};
+ghost use Rattle.json.specs.Token.{Token};
+ghost use Rattle.serde_json.specs.Data.{string, number, unsigned};
 ghost use Rattle.manifest_json.specs.Versions.{number_of};
+ghost use Rattle.manifest_json.specs.Texts.{tokens_of};
 ghost use Rattle.move_plan.specs.Rules.{PassesRules};
 ghost use Rattle.intent_json.specs.Places.{places_data, pairs_data, sets_data};
 ghost use Rattle.intent_json.specs.Held.{IsHeld, IsHeldPair, IsHeldSet, IsHeldManifest, IsHeldPlan};
@@ -13,24 +14,27 @@ ghost use Rattle.intent_json.specs.Accepted.{TellsIntent};
 ghost use Rattle.intent_json.specs.Reads.{intent_value};
 
 use crate::Phase;
-use crate::places::{pairs_values, places_values, sets_values};
-use manifest_json::{FormatVersion, Manifest, manifest_to_json};
+use crate::places::{write_pairs, write_places, write_sets};
+use json::Writer;
+use manifest_json::{FormatVersion, Manifest, write_manifest};
 use move_plan::{Plan, SetRow};
-use serde_json::{Value, json};
 use std::alloc::{AllocError, Global};
 use tree_fs::Place;
 
-fn manifest_or_null(
+fn write_manifest_or_null(
     alloc: Global,
+    writer: &mut Writer,
     version: FormatVersion,
     manifest: &Option<Manifest>,
-) -> Result<Value, AllocError>
-    ensures data { IfOk result (λ v. view v ≡ manifest_or_null version manifest.now) }
-    ensures held { IfOk result (λ _. IsHeldManifest manifest.now) }
+) -> Result<(), AllocError>
+    ensures tokens { OnOk result (writer.new.tokens
+        ≡ writer.old.tokens ++ tokens_of (manifest_or_null version manifest.now)) }
+    ensures before { writer.new.before ≡ writer.old.before }
+    ensures held { OnOk result (IsHeldManifest manifest.now) }
 {
     match manifest {
-        None => Ok(Value::Null),
-        Some(manifest) => manifest_to_json(alloc, version, manifest),
+        None => writer.null(),
+        Some(manifest) => write_manifest(alloc, writer, version, manifest),
     }
 }
 
@@ -43,76 +47,6 @@ fn word(phase: Phase) -> &'static str
     }
 }
 
-fn places_value(alloc: Global, places: &[Place]) -> Result<Value, AllocError>
-    ensures data { IfOk result (λ v. view v ≡ places_data places.now) }
-    ensures held { IfOk result (λ _. AllByRecursion IsHeld places.now) }
-{
-    Ok(Value::Array(places_values(alloc, places)?))
-}
-
-fn pairs_value(alloc: Global, pairs: &[(Place, Place)]) -> Result<Value, AllocError>
-    ensures data { IfOk result (λ v. view v ≡ pairs_data pairs.now) }
-    ensures held { IfOk result (λ _. AllByRecursion IsHeldPair pairs.now) }
-{
-    Ok(Value::Array(pairs_values(alloc, pairs)?))
-}
-
-fn sets_value(alloc: Global, sets: &[SetRow]) -> Result<Value, AllocError>
-    ensures data { IfOk result (λ v. view v ≡ sets_data sets.now) }
-    ensures held { IfOk result (λ _. AllByRecursion IsHeldSet sets.now) }
-{
-    Ok(Value::Array(sets_values(alloc, sets)?))
-}
-
-// The values of an intent's keys.
-#[derive(Drop)]
-struct Values {
-    clears: Value,
-    folders: Value,
-    folders_off: Value,
-    manifest: Value,
-    saves: Value,
-    sets: Value,
-}
-
-fn object_value(
-    alloc: Global,
-    version: FormatVersion,
-    phase: Phase,
-    values: Values,
-) -> Result<Value, AllocError>
-    ensures { IfOk result (λ v. view v ≡ object
-        (member (codes "clears") (view values.clears)
-        (member (codes "folders") (view values.folders)
-        (member (codes "folders_off") (view values.folders_off)
-        (member (codes "manifest") (view values.manifest)
-        (member (codes "phase") (string (phase_word phase))
-        (member (codes "saves") (view values.saves)
-        (member (codes "sets") (view values.sets)
-        (member (codes "version") (number (unsigned (number_of version))) no_members))))))))) }
-{
-    let Values {
-        clears,
-        folders,
-        folders_off,
-        manifest,
-        saves,
-        sets,
-    } = values;
-    let phase = word(phase);
-    let version = version.number();
-    json!(in alloc; {
-        "clears": clears,
-        "folders": folders,
-        "folders_off": folders_off,
-        "manifest": manifest,
-        "phase": phase,
-        "saves": saves,
-        "sets": sets,
-        "version": version
-    })
-}
-
 // What a plan makes, saves and sets.
 #[derive(Drop)]
 struct Steps<'a> {
@@ -121,47 +55,116 @@ struct Steps<'a> {
     sets: &'a [SetRow],
 }
 
-// The intent of these steps and of the rest of a plan.
-fn steps_value(
+// A key, and the places that stand at it.
+fn write_places_at(
     alloc: Global,
+    writer: &mut Writer,
+    key: &str,
+    places: &[Place],
+) -> Result<(), AllocError>
+    ensures tokens { OnOk result (writer.new.tokens
+        ≡ writer.old.tokens ++ Token.key key.now ∷ tokens_of (places_data places.now)) }
+    ensures before { writer.new.before ≡ writer.old.before }
+    ensures held { OnOk result (AllByRecursion IsHeld places.now) }
+{
+    writer.key(key)?;
+    write_places(alloc, writer, places)
+}
+
+// The keys up to the manifest.
+fn write_first(
+    alloc: Global,
+    writer: &mut Writer,
+    version: FormatVersion,
+    folders: &[Place],
+    plan: &Plan,
+) -> Result<(), AllocError>
+    ensures tokens { OnOk result (writer.new.tokens ≡ writer.old.tokens
+        ++ Token.key (codes "clears") ∷ (tokens_of (places_data plan.now.clears)
+        ++ Token.key (codes "folders") ∷ (tokens_of (places_data folders.now)
+        ++ Token.key (codes "folders_off") ∷ (tokens_of (places_data plan.now.folders_off)
+        ++ Token.key (codes "manifest") ∷ tokens_of (manifest_or_null version plan.now.manifest))))) }
+    ensures before { writer.new.before ≡ writer.old.before }
+    ensures clears { OnOk result (AllByRecursion IsHeld plan.now.clears) }
+    ensures folders { OnOk result (AllByRecursion IsHeld folders.now) }
+    ensures folders_off { OnOk result (AllByRecursion IsHeld plan.now.folders_off) }
+    ensures manifest { OnOk result (IsHeldManifest plan.now.manifest) }
+{
+    write_places_at(alloc, writer, "clears", plan.clears.as_slice())?;
+    write_places_at(alloc, writer, "folders", folders)?;
+    write_places_at(alloc, writer, "folders_off", plan.folders_off.as_slice())?;
+    writer.key("manifest")?;
+    write_manifest_or_null(alloc, writer, version, &plan.manifest)
+}
+
+// The keys behind the manifest.
+fn write_last(
+    alloc: Global,
+    writer: &mut Writer,
+    version: FormatVersion,
+    phase: Phase,
+    saves: &[(Place, Place)],
+    sets: &[SetRow],
+) -> Result<(), AllocError>
+    ensures tokens { OnOk result (writer.new.tokens ≡ writer.old.tokens
+        ++ Token.key (codes "phase") ∷ (tokens_of (string (phase_word phase))
+        ++ Token.key (codes "saves") ∷ (tokens_of (pairs_data saves.now)
+        ++ Token.key (codes "sets") ∷ (tokens_of (sets_data sets.now)
+        ++ Token.key (codes "version") ∷ tokens_of (number (unsigned (number_of version))))))) }
+    ensures before { writer.new.before ≡ writer.old.before }
+    ensures saves { OnOk result (AllByRecursion IsHeldPair saves.now) }
+    ensures sets { OnOk result (AllByRecursion IsHeldSet sets.now) }
+{
+    writer.key("phase")?;
+    writer.string(word(phase))?;
+    writer.key("saves")?;
+    write_pairs(alloc, writer, saves)?;
+    writer.key("sets")?;
+    write_sets(alloc, writer, sets)?;
+    writer.key("version")?;
+    writer.u64(version.number())
+}
+
+// The intent of these steps and of the rest of a plan.
+fn write_steps(
+    alloc: Global,
+    writer: &mut Writer,
     version: FormatVersion,
     phase: Phase,
     steps: Steps<'_>,
     plan: &Plan,
-) -> Result<Value, AllocError>
-    ensures data { IfOk result (λ v.
-        view v ≡ intent_data version
-        (with_steps phase steps.entry.folders.now steps.entry.saves.now steps.entry.sets.now plan.now)) }
-    ensures held { IfOk result (λ _.
-        IsHeldPlan
+) -> Result<(), AllocError>
+    ensures tokens { OnOk result (writer.new.tokens ≡ writer.old.tokens
+        ++ tokens_of (intent_data version
+        (with_steps phase steps.entry.folders.now steps.entry.saves.now steps.entry.sets.now plan.now))) }
+    ensures before { writer.new.before ≡ writer.old.before }
+    ensures held { OnOk result
+        (IsHeldPlan
         (with_steps phase steps.entry.folders.now steps.entry.saves.now steps.entry.sets.now plan.now).plan) }
 {
-    let clears = places_value(alloc, plan.clears.as_slice())?;
-    let folders = places_value(alloc, steps.folders)?;
-    let folders_off = places_value(alloc, plan.folders_off.as_slice())?;
-    let manifest = manifest_or_null(alloc, version, &plan.manifest)?;
-    let saves = pairs_value(alloc, steps.saves)?;
-    let sets = sets_value(alloc, steps.sets)?;
-    let values = Values {
-        clears,
+    let Steps {
         folders,
-        folders_off,
-        manifest,
         saves,
         sets,
-    };
-    object_value(alloc, version, phase, values)
+    } = steps;
+    writer.begin_object()?;
+    write_first(alloc, writer, version, folders, plan)?;
+    write_last(alloc, writer, version, phase, saves, sets)?;
+    writer.end_object()
 }
 
 #[tactic(auto, unfolding(crate::specs::Forms::bare_of))]
-fn intent_to_json(
+fn write_intent(
     alloc: Global,
+    writer: &mut Writer,
     version: FormatVersion,
     phase: Phase,
     plan: &Plan,
-) -> Result<Value, AllocError>
-    ensures data { IfOk result (λ v. view v ≡ intent_data version (form_of phase plan.now)) }
-    ensures held { IfOk result (λ _. IsHeldPlan (form_of phase plan.now).plan) }
+) -> Result<(), AllocError>
+    ensures tokens { OnOk result (writer.new.tokens
+        ≡ writer.old.tokens ++ tokens_of (intent_data version (form_of phase plan.now))) }
+    ensures before { writer.new.before ≡ writer.old.before }
+    ensures held { OnOk result (IsHeldPlan (form_of phase plan.now).plan) }
 {
     match phase {
         Phase::Set => {
@@ -170,7 +173,7 @@ fn intent_to_json(
                 saves: plan.saves.as_slice(),
                 sets: plan.sets.as_slice(),
             };
-            steps_value(alloc, version, phase, steps, plan)
+            write_steps(alloc, writer, version, phase, steps, plan)
         }
         Phase::Clear => {
             let steps = Steps {
@@ -178,7 +181,7 @@ fn intent_to_json(
                 saves: &[],
                 sets: &[],
             };
-            steps_value(alloc, version, phase, steps, plan)
+            write_steps(alloc, writer, version, phase, steps, plan)
         }
     }
 }
@@ -194,9 +197,9 @@ pub(crate) fn text_in(
     ensures utf8 { IfOk result (λ bytes. IsUtf8 bytes.items) }
     ensures held { IfOk result (λ _. IsHeldPlan (form_of phase plan.now).plan) }
 {
-    let value = intent_to_json(alloc, version, phase, plan)?;
-    let text = value.to_string(alloc)?;
-    Ok(text.into_bytes())
+    let mut writer = Writer::new(Vec::new(alloc));
+    write_intent(alloc, &mut writer, version, phase, plan)?;
+    Ok(writer.into_inner())
 }
 
 /// The text of the intent of a plan in this phase: compact JSON in the second version of the

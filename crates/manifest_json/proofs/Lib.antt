@@ -12,4 +12,7 @@ pub mod Beside
 pub mod FolderScans
 pub mod Digits
 pub mod Rounds
+pub mod Plain
+pub mod Compact
+pub mod Printed
 pub mod Values

@@ -6,10 +6,8 @@ use Rattle.std.specs.Ordering.{nat_cmp}
 use Rattle.std.specs.Cmp.Lexicographic.{slice_cmp}
 use Rattle.std.specs.declared.cmp.Ordering.TheVariants.{Less}
 use Rattle.std.proofs.lemmas.List.{reverse-append}
-use Rattle.serde_json.specs.Data.{Data, string, depth, items_depth}
+use Rattle.serde_json.specs.Data.{Data, string}
 use Rattle.serde_json.specs.View.{items_of}
-use Rattle.serde_json.specs.Written.{has_float, items_have_float}
-use Rattle.serde_json.specs.Read.{max_depth}
 use Rattle.manifest_json.specs.declared.manifest.Row.{Row}
 use Rattle.manifest_json.specs.Paths.{is_free_path, is_above, AreRising, AreFlat}
 use Rattle.rel_paths.specs.Names.{extends}
@@ -121,28 +119,3 @@ manifest_back version m h form =
     ap (λ o. and_then (or_fault o Version) (λ v. parts_of v (items_of (map (row_data version) m.rows), items_of (map string m.folders)))) (version_back version)
     ∙ (λ i. and_then (rows_from version [] 0 (list_of-items_of (map (row_data version) m.rows) i)) (λ rows. and_then (folders_from [] 0 (list_of-items_of (map string m.folders) i)) (λ folders. Ok (record { rows = rows; folders = folders }))))
     ∙ (λ i. and_then (rows_back version [] 0 m.rows h.rows.good h.digests (rows_formed version m.rows form) h.rows.rise h.rows.flat h.rows.apart (fits_first m.rows) i) (λ rows. and_then (folders_back [] 0 m.folders h.folders.good h.folders.rise (above_first m.folders) i) (λ folders. Ok (record { rows = rows; folders = folders }))))
-
--- a manifest has no float, and is shallow
-rows_plain : (version : FormatVersion) (rows : List Row) → items_have_float (items_of (map (row_data version) rows)) ≡ false
-rows_plain version [] = refl
-rows_plain One (r ∷ rows) = rows_plain One rows
-rows_plain Two (r ∷ rows) = rows_plain Two rows
-
-folders_plain : (ps : List (List ℕ)) → items_have_float (items_of (map string ps)) ≡ false
-folders_plain [] = refl
-folders_plain (p ∷ ps) = folders_plain ps
-
-pub manifest_plain : (version : FormatVersion) (m : Manifest) → has_float (manifest_data version m) ≡ false
-manifest_plain version m = rw (rows_plain version m.rows, folders_plain m.folders)
-
-rows_shallow : (version : FormatVersion) (rows : List Row) → items_depth (items_of (map (row_data version) rows)) ≤ 1
-rows_shallow version [] = omega arith
-rows_shallow One (r ∷ rows) = let ih = rows_shallow One rows in omega arith
-rows_shallow Two (r ∷ rows) = let ih = rows_shallow Two rows in omega arith
-
-folders_shallow : (ps : List (List ℕ)) → items_depth (items_of (map string ps)) ≤ 0
-folders_shallow [] = omega arith
-folders_shallow (p ∷ ps) = let ih = folders_shallow ps in omega arith
-
-pub manifest_shallow : (version : FormatVersion) (m : Manifest) → depth (manifest_data version m) ≤ max_depth
-manifest_shallow version m = let a = rows_shallow version m.rows in let b = folders_shallow m.folders in omega arith

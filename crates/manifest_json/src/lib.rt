@@ -18,7 +18,7 @@ mod version;
 pub use digest::FileDigest;
 pub use error::ManifestError;
 pub use manifest::{Manifest, Paths, Row, Rows};
-pub use print::{manifest_text, manifest_to_json};
+pub use print::{manifest_text, write_manifest};
 pub use read::{manifest_from_json, read_manifest};
 pub use spot::Spot;
 pub use version::FormatVersion;
