@@ -8,7 +8,7 @@ For worlds of 1,050, 6,050, 50,000 and 185,000 deployed files (the last has 199,
 mods): a first `deploy`, a `deploy` that has nothing to do, `check` and `purge`, beside `floor.c`
 and, where they are installed, `cp -al`, `rsync --link-dest` and `stow`. In each round all of them
 run once, one after the other; of each the median of three rounds is told, of the largest worlds
-one round. The others get what the program has to find out: the winners as one folder (`cp` and
+one round. `stow -D` takes off what `stow` linked. The others get what the program has to find out: the winners as one folder (`cp` and
 `rsync`) or package (`stow`), and an empty game. None of them writes down what it does, or syncs.
 
 With --limits also: system calls of `winners` a file, at 200,000 files in 2,000 mods; `plan` of
@@ -93,6 +93,8 @@ class Bench:
             other = os.path.join(self.folder, "other")
             os.mkdir(other)
             runs[name] = how(words, self.folder)
+            if name == "stow":
+                runs["purge, stow -D"] = how([words[0], "-D", *words[1:]], self.folder)
             shutil.rmtree(other)
         return runs
 
