@@ -20,10 +20,10 @@ use tree_fs::{Entry, Kind, Place, Tree, TreeError};
 /// `Failed`. What lies above a folder that the system lets nobody look at is not compared. A
 /// symbolic link anywhere else is `Other`, and what lies below it is absent.
 ///
-/// The tree remembers which folders are real, and what the last two looks told: others must not
-/// change the roots between two calls without a `forget`. It tells no story. Its count of faults
-/// rises with each error of the system but want of memory, and but for those by which `kind` knows
-/// that nothing is there.
+/// The tree remembers which folders are real, what the last two looks told, and how far it filled the
+/// folders that it made: others must not change the roots between two calls without a `forget`. It
+/// tells no story. Its count of faults rises with each error of the system but want of memory, and
+/// but for those by which `kind` knows that nothing is there.
 #[derive(Drop)]
 pub struct HostTree<R: Files + Clone + Drop> {
     disk: RealDisk<R>,

@@ -10,6 +10,7 @@ mod found;
 mod host_tree;
 mod listing;
 mod looks;
+mod new_folders;
 mod reading;
 mod real_disk;
 

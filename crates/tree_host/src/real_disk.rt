@@ -10,6 +10,7 @@ mod roots;
 
 use crate::folder_set::FolderSet;
 use crate::looks::Looks;
+use crate::new_folders::NewFolders;
 use crate::reading::Reading;
 use std::alloc::{AllocError, Global};
 use std::collections::BTreeSet;
@@ -33,6 +34,8 @@ pub(crate) struct RealDisk<R: Files + Clone + Drop> {
     real: FolderSet,
     // Paths below the roots at which no folder was found since the last change.
     missing: FolderSet,
+    // Folders that were made, and all that is in them.
+    made: NewFolders,
     // Folders that were synced, and nothing in them was changed since.
     settled: FolderSet,
     // Folders in which one was made or removed, to be synced before a file gets or loses a name.
@@ -52,6 +55,7 @@ impl<R: Files + Clone + Drop> RealDisk<R> {
             has_settled_base: false,
             real: FolderSet::new(alloc),
             missing: FolderSet::new(alloc),
+            made: NewFolders::new(alloc),
             settled: FolderSet::new(alloc),
             late: BTreeSet::new(alloc),
             looks: Looks::new(),
@@ -64,6 +68,7 @@ impl<R: Files + Clone + Drop> RealDisk<R> {
         self.has_roots = false;
         self.real.clear();
         self.missing.clear();
+        self.made.clear();
         self.settled.clear();
         self.looks.clear();
         self.reading = None;

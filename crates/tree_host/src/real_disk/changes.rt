@@ -13,17 +13,24 @@ impl<R: Files + Clone + Drop> RealDisk<R> {
         self.settle_late()
     }
 
-    // The path of a place that is about to get a file, or to lose it.
+    // The path of a place that is about to get or to lose a file.
     fn path_to_change(&mut self, at: &Place) -> io::Result<String> {
         let path = self.path_below_folders(at)?;
         self.settled.remove(parent(path.as_str()));
         Ok(path)
     }
 
+    // The path of a place that is about to get a file.
+    fn path_to_fill(&mut self, at: &Place) -> io::Result<String> {
+        let path = self.path_to_change(at)?;
+        self.made.fill(parent(path.as_str()), path.as_str())?;
+        Ok(path)
+    }
+
     pub(crate) fn link(&mut self, from: &Place, to: &Place) -> io::Result<()> {
         self.begin_naming()?;
         let original = self.path_below_folders(from)?;
-        let link = self.path_to_change(to)?;
+        let link = self.path_to_fill(to)?;
         fs::hard_link(&self.rt, original.as_str(), link.as_str())
     }
 
@@ -39,7 +46,7 @@ impl<R: Files + Clone + Drop> RealDisk<R> {
         self.find_file(from)?;
         self.begin_naming()?;
         let old = self.path_to_change(from)?;
-        let new = self.path_to_change(to)?;
+        let new = self.path_to_fill(to)?;
         fs::rename(&self.rt, old.as_str(), new.as_str())
     }
 
@@ -47,7 +54,7 @@ impl<R: Files + Clone + Drop> RealDisk<R> {
     /// where they were written, as an error of closing the file is not seen.
     pub(crate) fn put_new(&mut self, at: &Place, bytes: &[u8]) -> io::Result<()> {
         self.begin_naming()?;
-        let path = self.path_to_change(at)?;
+        let path = self.path_to_fill(at)?;
         self.put(path.as_str(), bytes)
     }
 
@@ -67,6 +74,7 @@ impl<R: Files + Clone + Drop> RealDisk<R> {
         self.settle_later(parent(path))?;
         fs::create_dir(&self.rt, path)?;
         self.real.add(path)?;
+        self.made.add(path)?;
         Ok(())
     }
 
@@ -78,6 +86,7 @@ impl<R: Files + Clone + Drop> RealDisk<R> {
 
     fn remove(&mut self, path: &str) -> io::Result<()> {
         self.real.remove(path);
+        self.made.remove(path);
         self.settle_later(parent(path))?;
         fs::remove_dir(&self.rt, path)?;
         self.settled.remove(path);

@@ -1,5 +1,5 @@
 // The calls that change nothing.
-use super::{RealDisk, joined};
+use super::{RealDisk, joined, parent};
 use crate::found::{Found, found_or_nothing};
 use crate::listing::list_folder;
 use crate::reading::Reading;
@@ -15,6 +15,8 @@ impl<R: Files + Clone + Drop> RealDisk<R> {
         let path = self.path_of(at)?;
         if self.real.has(path.as_str()) {
             Ok(Kind::Folder)
+        } else if self.made.is_free(parent(path.as_str()), path.as_str()) {
+            Ok(Kind::Absent)
         } else if self.has_real_parents(at, path.as_str())? {
             Ok(self.find(at, path)?.kind)
         } else {

@@ -17,7 +17,8 @@ const WORLD: &str = "
 // else nothing is asked twice. A file is kept open from one part to the next, and no longer. The
 // folders above those that are made or removed are synced once, before a file gets or loses a name;
 // one that is removed itself isn't, and is known no more. Where no folder was found, none is looked
-// for again before the next change. A new file is synced where it was written. A folder in which
+// for again before the next change. In a folder that was made, nothing is looked for behind the last
+// file that came into it. A new file is synced where it was written. A folder in which
 // nothing was changed since is not synced again, nor those above it. After `forget` all but the
 // base's sync is asked again.
 const STEPS: &str = "
@@ -40,6 +41,9 @@ const STEPS: &str = "
     make_folder game/d/f | () | mkdir ./game/d/f
     kind game/d/f | Folder |
     link stage/m/e/y game/d/e/x | () | open ./game, fsync ./game, open ./game/d, fsync ./game/d, link ./game/d/e/x
+    kind game/d/e/x | File | lstat ./game/d/e/x
+    kind game/d/e/y | Absent |
+    kind game/d/e/a | Absent | lstat ./game/d/e/a
     sync_folder game/d/e | () | open ./game/d/e, fsync ./game/d/e
     sync_folder game/d/e | () |
     unlink game/d/e/x | () | unlink ./game/d/e/x
@@ -62,7 +66,11 @@ const STEPS: &str = "
     forget | () |
     kind keep/two | File | stat ./stage, stat ./game, stat ./keep, lstat ./keep/two
     list stage/m | e Folder | lstat ./stage/m, list ./stage/m/, lstat ./stage/m/e
-    sync_folder stage/m | () | open ./stage, fsync ./stage, open ./stage/m, fsync ./stage/m";
+    sync_folder stage/m | () | open ./stage, fsync ./stage, open ./stage/m, fsync ./stage/m
+    make_folder game/d | () | mkdir ./game/d
+    kind game/d/x | Absent |
+    forget | () |
+    kind game/d/x | Absent | stat ./stage, stat ./game, stat ./keep, lstat ./game/d, lstat ./game/d/x";
 
 #[test]
 fn each_call_asks_the_system_in_order_and_nothing_twice(rt: HostRuntime) {
@@ -124,7 +132,7 @@ fn an_error_of_the_system_ends_the_call_that_met_it(rt: HostRuntime) {
                 break;
             }
         }
-        assert_eq!(&rt; calls, 73);
+        assert_eq!(&rt; calls, 81);
     }
 }
 
