@@ -17,6 +17,7 @@ sys.path.insert(0, HERE)
 sys.dont_write_bytecode = True
 
 import batching
+import counting
 import deploying
 import documents
 import editing
@@ -47,6 +48,7 @@ MODULES = (
     batching,
     sampling,
     reporting,
+    counting,
 )
 
 PROGRAM = os.path.join(HERE, "..", "crates", "mod_deployer", "out", "mod_deployer")

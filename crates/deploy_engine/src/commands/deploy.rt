@@ -49,6 +49,7 @@ pub(crate) fn deploy_mods<T: Tree>(
     let look = look_at_winners(alloc, tree, limits)?;
     let there = manifest_of(alloc, tree, limits)?;
     let plan = plan_of(alloc, tree, &there, &look)?;
+    drop(look);
     let lines = total_lines(alloc, &totals_of(&plan))?;
     let saves = count_saves(&plan);
     run_plan(alloc, tree, plan, &there, limits)?;
