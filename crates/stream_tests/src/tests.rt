@@ -212,12 +212,13 @@ type Size = (u32, usize);
 // tick in hundredths.
 fn takes_linear_time<R: AllocGlobal + CpuClock + Abort>(
     rt: &R,
-    (few, short): Size,
-    (many, long): Size,
+    small: Size,
+    large: Size,
     piece: u32,
 ) -> bool
     requires { 0 < piece }
 {
+    let ((few, short), (many, long)) = (small, large);
     for _ in 0..10u8 {
         let less = least_time(rt, few, short, piece);
         let more = least_time(rt, many, long, piece);
