@@ -60,11 +60,11 @@ fn least_times(rt: &(impl AllocGlobal + CpuClock + Abort), mods: u32, rules: u32
     least
 }
 
-// Eight times the text takes eight times as long where time is linear in it, twice that where the
-// smaller one alone fits into the processor's cache, and 64 times where time is quadratic.
-fn is_below_24_times(few: Taken, many: Taken) -> bool {
-    many.reading.as_nanos() / 24 < few.reading.as_nanos()
-        && many.printing.as_nanos() / 24 < few.printing.as_nanos()
+// Eight times the text takes eight times as long where time is linear in it, and 64 times where it is
+// quadratic. A tenth of a second isn't counted: the smaller one alone may fit into the processor's
+// cache, and other work on the machine takes from that.
+fn is_below_24_times(few: Duration, many: Duration) -> bool {
+    many.saturating_sub(Duration::from_millis(100)).as_nanos() / 24 <= few.as_nanos()
 }
 
 // How many mods, and with how many rules each.
@@ -79,7 +79,9 @@ fn takes_linear_time(
     for _ in 0..10u8 {
         let small = least_times(rt, few, rules);
         let large = least_times(rt, many, more_rules);
-        if is_below_24_times(small, large) {
+        if is_below_24_times(small.reading, large.reading)
+            && is_below_24_times(small.printing, large.printing)
+        {
             return true;
         }
     }
@@ -90,7 +92,7 @@ fn takes_linear_time(
 fn eight_times_the_text_takes_less_than_24_times_the_time(rt: HostRuntime) {
     for (small, large) in [
         ((200, 20), (1600, 20)),
-        ((500, 0), (4000, 0)),
+        ((1000, 0), (8000, 0)),
         ((1, 1000), (1, 8000)),
     ] {
         assert!(&rt; takes_linear_time(&rt, small, large), "{large:?}");
