@@ -26,7 +26,10 @@ def _entries(folder):
 def _makes_at_most(most, world, folder, *words):
     from runs import calls_of
 
-    calls = calls_of([world.program, *words], folder)
+    try:
+        calls = calls_of([world.program, *words], folder)
+    except SystemExit as told:
+        raise Failure(str(told)) from told
     if calls is None:
         raise Skipped("strace isn't installed")
     if sum(calls.values()) > most:
