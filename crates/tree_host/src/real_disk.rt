@@ -36,7 +36,7 @@ pub(crate) struct RealDisk<R: Files + Clone + Drop> {
     missing: FolderSet,
     // Folders that were made, and all that is in them.
     made: NewFolders,
-    // Folders that were synced, and nothing in them was changed since.
+    // Folders that were synced, and nothing in them was changed since, but that folders went.
     settled: FolderSet,
     // Folders in which one was made or removed, to be synced before a file gets or loses a name.
     late: BTreeSet<String>,

@@ -72,6 +72,7 @@ impl<R: Files + Clone + Drop> RealDisk<R> {
 
     fn make(&mut self, path: &str) -> io::Result<()> {
         self.settle_later(parent(path))?;
+        self.settled.remove(parent(path));
         fs::create_dir(&self.rt, path)?;
         self.real.add(path)?;
         self.made.add(path)?;
@@ -98,6 +99,9 @@ impl<R: Files + Clone + Drop> RealDisk<R> {
     pub(crate) fn sync_folder(&mut self, at: &Place) -> io::Result<()> {
         self.begin()?;
         let path = self.folder_path(at)?;
+        if self.late.contains(path.as_str()) {
+            self.settled.remove(path.as_str());
+        }
         self.settle_from_base(path.as_str())
     }
 

@@ -100,13 +100,14 @@ impl<R: Files + Clone + Drop> RealDisk<R> {
         if !self.settled.has(folder) {
             self.sync_path(folder)?;
             self.settled.add(folder)?;
+            self.late.remove(folder);
         }
         Ok(())
     }
 
-    // Before a folder is made or removed in this one.
+    // Before a folder is made or removed in this one. Where one goes, those beside it stay as settled
+    // as they are.
     pub(super) fn settle_later(&mut self, folder: &str) -> io::Result<()> {
-        self.settled.remove(folder);
         if !self.late.contains(folder) {
             self.late.insert(String::from_str(self.rt.1, folder)?)?;
         }
@@ -125,6 +126,7 @@ impl<R: Files + Clone + Drop> RealDisk<R> {
 
     fn settle_each(&mut self, folders: &BTreeSet<String>) -> io::Result<()> {
         for folder in folders {
+            self.settled.remove(folder.as_str());
             self.settle_from_base(folder.as_str())?;
         }
         Ok(())

@@ -16,7 +16,8 @@ const WORLD: &str = "
 // listing. The base is synced before the first change, and a change lets go of what was looked at;
 // else nothing is asked twice. A file is kept open from one part to the next, and no longer. The
 // folders above those that are made or removed are synced once, before a file gets or loses a name;
-// one that is removed itself isn't, and is known no more. Where no folder was found, none is looked
+// one that is removed itself isn't, and is known no more. Where a folder went, those beside it are
+// synced without the one above. Where no folder was found, none is looked
 // for again before the next change. In a folder that was made, nothing is looked for behind the last
 // file that came into it. A new file is synced where it was written. A folder in which
 // nothing was changed since is not synced again, nor those above it. After `forget` all but the
@@ -51,6 +52,9 @@ const STEPS: &str = "
     remove_folder game/d/e | () | rmdir ./game/d/e
     kind game/d/e/x | Absent | lstat ./game/d/e
     kind game/d/e/z | Absent |
+    sync_folder game/d/f | () | open ./game/d/f, fsync ./game/d/f
+    sync_folder game/d | () | open ./game/d, fsync ./game/d
+    sync_folder game/d | () |
     remove_folder game/d/f | () | rmdir ./game/d/f
     kind game/d/e/z | Absent | lstat ./game/d/e
     remove_folder game/d | () | rmdir ./game/d
@@ -132,7 +136,7 @@ fn an_error_of_the_system_ends_the_call_that_met_it(rt: HostRuntime) {
                 break;
             }
         }
-        assert_eq!(&rt; calls, 81);
+        assert_eq!(&rt; calls, 85);
     }
 }
 
